@@ -1,0 +1,7 @@
+-- Laws that every crate cites.
+pub mod Tests
+pub mod Cases
+pub mod Search
+pub mod Rows
+pub mod Lists
+pub mod Maps

@@ -1,0 +1,41 @@
+-- Laws of lists: parts from one index up to another, and entries with another default.
+use Prim.Native.Nat.{ℕ, zero, suc, _-_, _≤_, _<_, min}
+use native.Mathlib.Omega.{arith}
+use mathlib.Core.List.{List, [], _∷_}
+use mathlib.Core.Path.{_≡_, refl, sym, _∙_}
+use lib.ListN.{length, getD, take, drop, length-take, drop-of-length-le}
+use lib.Seq.{slice, take-all, take-length, take-nil, drop-length}
+use Rattle.laws.proofs.Cases.{by-order}
+
+-- an entry within the list does not depend on the default
+pub getD-within : (l : List ℕ) (i d e : ℕ) → i < length l → getD l i d ≡ getD l i e
+getD-within [] i d e h = absurd (omega arith)
+getD-within (x ∷ xs) zero d e h = refl
+getD-within (x ∷ xs) (suc i) d e h = getD-within xs i d e (omega arith)
+
+-- a part of a slice, as code makes it
+slice-taken : (a e : ℕ) (l : List ℕ) → take (e - a) (drop a l) ≡ slice a e l
+slice-taken zero e l = let q : e - 0 ≡ e = omega arith in rw q
+slice-taken (suc a) zero l = let q : 0 - suc a ≡ 0 = omega arith in rw q
+slice-taken (suc a) (suc e) [] = take-nil (suc e - suc a)
+slice-taken (suc a) (suc e) (x ∷ xs) = let q : suc e - suc a ≡ e - a = omega arith in rw q (slice-taken a e xs)
+
+-- a bound past the end is as good as the end
+take-clamped : (e : ℕ) (l : List ℕ) → take (min e (length l)) l ≡ take e l
+take-clamped e l =
+    by-order e (length l) (λ h. let q : min e (length l) ≡ e = omega arith in rw q)
+    (λ h. let q : min e (length l) ≡ length l = omega arith in rw (q, take-all e l h, take-length l))
+
+drop-clamped : (a : ℕ) (l : List ℕ) → drop (min a (length l)) l ≡ drop a l
+drop-clamped a l =
+    by-order a (length l) (λ h. let q : min a (length l) ≡ a = omega arith in rw q)
+    (λ h. let q : min a (length l) ≡ length l = omega arith in rw (q, drop-of-length-le l {i = a} h) (drop-length l))
+
+slice-clamped : (a e : ℕ) (l : List ℕ) → slice (min a (min e (length l))) (min e (length l)) l ≡ slice a e l
+slice-clamped a e l =
+    let q : length (take e l) ≡ min e (length l) = length-take e l in
+    rw (take-clamped e l, ← q) (drop-clamped a (take e l))
+
+-- so a part that code takes from bounds which it keeps within the list is the part between them
+pub slice-part : (a e : ℕ) (l : List ℕ) {from to : ℕ} → to ≡ min e (length l) → from ≡ min a to → take (to - from) (drop from l) ≡ slice a e l
+slice-part a e l {from} {to} p q = slice-taken from to l ∙ rw (q, p) (slice-clamped a e l)

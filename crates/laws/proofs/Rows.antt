@@ -1,0 +1,25 @@
+-- Tables of refusals, one after another.
+use Prim.Native.Nat.{ℕ, zero, suc}
+use mathlib.Core.Path.{_≡_, refl}
+use mathlib.Core.Bool.{Bool, true, false}
+use native.Mathlib.Omega.{arith}
+use Rattle.laws.specs.Rows.{pick, otherwise}
+
+-- the first table refuses
+pub otherwise-first : (n rest : ℕ) → (n ≡ 0 → ⊥) → otherwise n rest ≡ n
+otherwise-first zero rest h = absurd (h refl)
+otherwise-first (suc n) rest h = refl
+
+-- the first table does not
+pub otherwise-next : (n rest : ℕ) → n ≡ 0 → otherwise n rest ≡ rest
+otherwise-next n rest h = rw h
+
+-- neither table refuses
+pub otherwise-none : (n rest : ℕ) → otherwise n rest ≡ 0 → (n ≡ 0) × (rest ≡ 0)
+otherwise-none zero rest h = (refl, h)
+otherwise-none (suc n) rest h = absurd (omega arith)
+
+-- no row of a table applies: not its first, nor one of the rest
+pub pick-none : (b : Bool) (n rest : ℕ) → pick b (suc n) rest ≡ 0 → (b ≡ false) × (rest ≡ 0)
+pick-none true n rest h = absurd (omega arith)
+pick-none false n rest h = (refl, h)

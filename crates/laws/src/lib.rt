@@ -1,0 +1,1 @@
+// What every crate shares: definitions in specs/, laws about them in proofs/. No code.

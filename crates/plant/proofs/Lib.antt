@@ -1,0 +1,2 @@
+-- What accepted device tables say; callers of other crates cite it.
+pub mod Forest
