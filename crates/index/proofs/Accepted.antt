@@ -1,0 +1,127 @@
+-- What an accepted index says of each of its lists.
+use Prim.Native.Nat.{ℕ, zero, suc, _+_, _-_, _≤_, _<_}
+use mathlib.Core.Path.{_≡_, sym}
+use mathlib.Core.Bool.{false, _||_}
+use mathlib.Core.List.{List, [], _∷_}
+use native.Mathlib.Omega.{arith}
+use lib.ListN.{length, getD, length-take, length-drop, List·getD-eq-default}
+use Rattle.laws.specs.Search.{any, lowest}
+use Rattle.laws.specs.Tables.{entry}
+use Rattle.plant.specs.Plant as plants
+use Rattle.plant.specs.Plant.{Plant}
+use Rattle.index.specs.Postings.{device, misplaced, redundant}
+use Rattle.index.specs.Index.{Index, count, list, is-term, list-of, misplaced-term, wrong-start, stray, misplaced-in, redundant-in, unfit, index-refusal, refusal}
+use Rattle.laws.proofs.Tests.{tests, or-no}
+use Rattle.laws.proofs.Cases.{by-order, split-cond}
+use Rattle.laws.proofs.Rows.{otherwise-none, pick-none}
+use Rattle.laws.proofs.Search.{none-yet, none-any, any-none, lowest-of}
+use Rattle.index.proofs.Lists.{here, previous, ranged, rises, not-falling}
+use Rattle.index.proofs.Starts.{entry-next}
+
+-- the devices of a list lie above a, up to n, and rise strictly
+abbrev pub Rising : ℕ → ℕ → List ℕ → Type 0
+Rising n a [] = Unit
+Rising n a (q ∷ qs) = (a < device q) × (device q ≤ n) × Rising n (device q) qs
+
+-- the devices of a list do not fall, by index
+abbrev pub Sorted : List ℕ → Type 0
+Sorted l = (j k : ℕ) → j ≤ k → k < length l → device (getD l j 0) ≤ device (getD l k 0)
+
+-- what the rows come to where none applies
+pub record Accepted (P : Plant) (I : Index) : Type 0 where
+  pub tables : plants.refusal P ≡ 0
+  pub even : length (I .starts) ≡ count I
+  pub few-terms : count I ≤ 8192
+  pub few-postings : length (I .postings) ≤ 1048576
+  pub terms-rise : any (count I) (misplaced-term I) ≡ false
+  pub starts-rise : any (count I) (wrong-start I) ≡ false
+  pub none-stray : stray I ≡ false
+  pub devices-rise : any (count I) (misplaced-in P I) ≡ false
+  pub none-redundant : any (count I) (redundant-in P I) ≡ false
+
+pub accepted : (P : Plant) (I : Index) → refusal P I ≡ 0 → Accepted P I
+unfolding refusal
+accepted P I h =
+    let a = otherwise-none (plants.refusal P) (index-refusal P I) h in
+    let r5 = pick-none (unfit I) 4 _ (a .1) in
+    let r6 = pick-none (any (count I) (misplaced-term I)) 5 _ (r5 .1) in
+    let r7 = pick-none (any (count I) (wrong-start I) || stray I) 6 _ (r6 .1) in
+    let r8 = pick-none (any (count I) (misplaced-in P I)) 7 _ (r7 .1) in
+    let r9 = pick-none (any (count I) (redundant-in P I)) 8 _ (r8 .1) in
+    let fit = simp tests at (r5 .0) in
+    let starts = or-no (any (count I) (wrong-start I)) (stray I) .0 (r7 .0) in record {
+      tables = a .0;
+      even = omega arith;
+      few-terms = omega arith;
+      few-postings = omega arith;
+      terms-rise = r6 .0;
+      starts-rise = starts .0;
+      none-stray = starts .1;
+      devices-rise = r8 .0;
+      none-redundant = r9 .0;
+    }
+
+-- the device before index k of a list that stands after device a
+abbrev prior : ℕ → List ℕ → ℕ → ℕ
+prior a l zero = a
+prior a l (suc k) = device (getD l k 0)
+
+rising-of : (n a : ℕ) (l : List ℕ) → ((k : ℕ) → k < length l → (prior a l k < device (getD l k 0)) × (device (getD l k 0) ≤ n)) → Rising n a l
+rising-of n a [] h = tt
+rising-of n a (q ∷ qs) h = (h 0 (omega arith) .0, h 0 (omega arith) .1, rising-of n (device q) qs step)
+  where
+    step : (k : ℕ) → k < length qs → (prior (device q) qs k < device (getD qs k 0)) × (device (getD qs k 0) ≤ n)
+    step zero u = h 1 (omega arith)
+    step (suc k) u = h (suc (suc k)) (omega arith)
+
+-- a list of an accepted index, over a plant's table of last devices
+pub record SoundList (last l : List ℕ) : Type 0 where
+  pub rising : Rising (length last) 0 l
+  pub sorted : Sorted l
+  pub short : length l ≤ 1048576
+  pub none-misplaced : any (length l) (misplaced (length last) device l) ≡ false
+  pub none-redundant : any (length l) (redundant last l) ≡ false
+
+sound : (last l : List ℕ) → length l ≤ 1048576 → any (length l) (misplaced (length last) device l) ≡ false → any (length l) (redundant last l) ≡ false → SoundList last l
+sound last l s p q = record {
+  rising = rising-of (length last) 0 l above;
+  sorted = not-falling (length last) device l p;
+  short = s;
+  none-misplaced = p;
+  none-redundant = q;
+}
+  where
+    above : (k : ℕ) → k < length l → (prior 0 l k < device (getD l k 0)) × (device (getD l k 0) ≤ length last)
+    above zero u = let r = ranged (length last) device l p 1 (omega arith) (omega arith) in omega arith
+    above (suc k) u =
+        let e = here device l k in
+        let f = here device l (suc k) in
+        let r = ranged (length last) device l p (suc k + 1) (omega arith) (omega arith) in
+        let t = rises (length last) device l p (k + 1) (suc k + 1) (omega arith) (omega arith) (omega arith) in omega arith
+
+module _ (P : Plant) (I : Index) (accepts : refusal P I ≡ 0) where
+  -- each list starts no later than it ends, and ends within the postings
+  pub bounds : (k : ℕ) → 1 ≤ k → k ≤ count I
+      → (entry (I .starts) k ≤ getD (I .starts) k (length (I .postings))) × (getD (I .starts) k (length (I .postings)) ≤ length (I .postings))
+  bounds k a b =
+      let h = accepted P I accepts in
+      by-order k (count I)
+      (λ v. let e = entry-next (I .starts) k (length (I .postings)) (omega arith) in
+      let f = previous (λ s. s) (I .starts) k in
+      let r = simp tests at (none-any (wrong-start I) (h .starts-rise) (k + 1) (omega arith) (omega arith)) in
+      let w = r .0 .1 (omega arith) in omega arith)
+      (λ v. let e = List·getD-eq-default (I .starts) (length (I .postings)) {n = k} (omega arith) in
+      let r = simp tests at (none-any (wrong-start I) (h .starts-rise) k a b) in omega arith)
+
+  -- the list of the k-th term
+  pub accepted-list : (k : ℕ) → 1 ≤ k → k ≤ count I → SoundList (P .last) (list I k)
+  accepted-list k a b =
+      let h = accepted P I accepts in
+      sound (P .last) (list I k) (simp (length-drop, length-take) (omega arith)) (none-any _ (h .devices-rise) k a b) (none-any _ (h .none-redundant) k a b)
+
+  -- the list of a term, absent or not
+  pub accepted-list-of : (t : ℕ) → SoundList (P .last) (list-of I t)
+  accepted-list-of t =
+      split-cond (SoundList (P .last)) (any (count I) (is-term I t))
+      (λ p. let k = lowest-of (is-term I t) (count I) p in accepted-list (lowest (count I) (is-term I t)) (k .first) (k .last))
+      (λ p. sound (P .last) [] (omega arith) (sym (any-none _ (none-yet _ 0))) (sym (any-none _ (none-yet _ 0))))

@@ -1,0 +1,4 @@
+-- Walks of the functions over a cursor.
+mod Lent
+mod Scans
+mod Seeks

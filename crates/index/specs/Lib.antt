@@ -1,0 +1,6 @@
+pub mod Postings
+pub mod Index
+pub mod Around
+pub mod Lookup
+pub mod Forward
+pub mod Cursor
