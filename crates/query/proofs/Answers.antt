@@ -1,0 +1,147 @@
+-- What an accepted query is, and its answer from the end of its run.
+use Prim.Native.Nat.{ℕ, zero, suc, _+_, _-_, _≤_, _<_}
+use native.Mathlib.Omega.{arith}
+use mathlib.Core.Bool.{Bool, true, false, _||_}
+use mathlib.Core.List.{List, [], _∷_, _++_, map}
+use mathlib.Core.Path.{_≡_, refl, sym, ap, _∙_}
+use denote.Ref.{RefT, now}
+use lib.ListN.{length, getD, take, drop, length-map, length-take, List·getD-map}
+use lib.Seq.{take-at}
+use lib.Dec.{ltb}
+use Rattle.laws.specs.Search.{any}
+use Rattle.laws.specs.Tables.{entry, IsEntry}
+use Rattle.laws.proofs.Tests.{tests, flags}
+use Rattle.laws.proofs.Rows.{pick-none, otherwise-first, otherwise-next, otherwise-none}
+use Rattle.laws.proofs.Maps.{map-take}
+use Rattle.plant.specs.Plant.{Plant, size}
+use Rattle.plant.proofs.Forest as plants
+use Rattle.index.specs.Postings.{device}
+use Rattle.index.specs.Index as indexes
+use Rattle.index.specs.Index.{Index, count, misplaced-term, list-of}
+use Rattle.index.proofs.Lists.{here, ranged}
+use Rattle.index.proofs.Accepted.{SoundList, accepted, accepted-list-of}
+use Rattle.query.specs.Query.{required, forbidden, crowded, no-terms, no-range, no-start, query-refusal}
+use Rattle.query.specs.Matching.{in-range}
+use Rattle.query.specs.Steps.{End, run}
+use Rattle.query.specs.Cursors.{Sound, Lists, Tables, begin, Ends}
+use Rattle.query.specs.Answer.{lists, refusal, steps, told, written, answer, answer-list}
+use Rattle.query.specs.Promises.{Kept}
+use Rattle.query.specs.declared.Query.{Query}
+use Rattle.query.specs.declared.Answer.{Answer}
+use Rattle.query.specs.declared.run.Listing.{Listing}
+use Rattle.query.proofs.Kept.{kept}
+
+-- a list of an accepted index is one that cursors go along
+sound-list : {last l : List ℕ} → SoundList last l → Sound last l
+sound-list {last} {l} s = record {
+  devices = λ k h.
+      let r = ranged (length last) device l (s .none-misplaced) (k + 1) (omega arith) (omega arith) in
+      let e = here device l k in
+      record { first = omega arith; last = omega arith };
+  sorted = s .sorted;
+}
+
+-- what the rows come to where none applies
+pub record Admitted (P : Plant) (I : Index) (q : Query) (room : ℕ) : Type 0 where
+  pub tables : Tables (P .last) (P .root)
+  pub levels : length (P .level) ≡ size P
+  pub roomy : size P ≤ room
+  pub start : 1 ≤ q .start
+  pub few-required : q .«required_count» ≤ 8
+  pub few-forbidden : q .«forbidden_count» ≤ 8
+  pub terms : any (count I) (misplaced-term I) ≡ false
+  pub list : (t : ℕ) → Sound (P .last) (list-of I t)
+
+pub admitted : (P : Plant) (I : Index) (q : Query) (n : ℕ) → refusal P I q n ≡ 0 → Admitted P I q n
+unfolding refusal
+admitted P I q n h =
+    let a = otherwise-none (indexes.refusal P I) (query-refusal (size P) n q) h in
+    let t = accepted P I (a .0) in
+    let s = plants.accepted P (t .tables) in
+    let r10 = pick-none (crowded q) 9 _ (a .1) in
+    let r11 = pick-none (no-terms (required q) || no-terms (forbidden q)) 10 _ (r10 .1) in
+    let r12 = pick-none (no-range (q .levels)) 11 _ (r11 .1) in
+    let r13 = pick-none (no-start (size P) (q .start)) 12 _ (r12 .1) in
+    let f10 = simp tests at (r10 .0) in
+    let f13 = simp tests at (r13 .0) in
+    let r14 = pick-none (ltb n (size P)) 13 _ (r13 .1) in
+    record {
+      tables = record { same = s .roots; few = s .few };
+      levels = s .levels;
+      roomy = omega (flags, r14 .0);
+      start = omega arith;
+      few-required = omega arith;
+      few-forbidden = omega arith;
+      terms = t .terms-rise;
+      list = λ t. sound-list (accepted-list-of P I (a .0) t);
+    }
+
+-- the list of the k-th of some terms
+getD-within-map : (f : ℕ → List ℕ) (ts : List ℕ) (k : ℕ) → k < length ts → getD (map f ts) k [] ≡ f (getD ts k 0)
+getD-within-map f [] k h = absurd (omega arith)
+getD-within-map f (t ∷ ts) zero h = refl
+getD-within-map f (t ∷ ts) (suc k) h = getD-within-map f ts k (omega arith)
+
+-- the lists of some terms
+lists-sound : {P : Plant} {I : Index} {q : Query} {n : ℕ} → Admitted P I q n → (ts : List ℕ) → length ts ≤ 8 → Lists (P .last) (map (list-of I) ts)
+lists-sound {P} {I} a ts h = record { few = rw length-map h; each = λ k b. rw (getD-within-map (list-of I) ts k (rw length-map at b)) (a .list (getD ts k 0)) }
+
+-- the first m of some slices are the lists of some terms
+lists-are : (I : Index) (ts : List ℕ) (slices : List (RefT (List ℕ))) {m : ℕ} → m ≡ length ts
+    → take (length ts) (map now slices) ≡ map (list-of I) ts → map now (take m slices) ≡ map (list-of I) ts
+lists-are I ts slices {m} e f = map-take now m slices ∙ rw e f
+
+pub lists-fit : {P : Plant} {I : Index} {q : Query} {n : ℕ} → Admitted P I q n → (ts : List ℕ) (slices : List (RefT (List ℕ))) {m : ℕ} → m ≤ 8 → m ≡ length ts
+    → take (length ts) (map now slices) ≡ map (list-of I) ts → Lists (P .last) (map now (take m slices))
+lists-fit {I = I} a ts slices h e f = rw (lists-are I ts slices e f) (lists-sound a ts (omega arith))
+
+-- the end of a run along those lists is the end of the steps
+pub run-steps : (P : Plant) (I : Index) (q : Query) (slices slices′ : List (RefT (List ℕ))) {out out′ : List ℕ} {r : Listing}
+    → q .«required_count» ≡ length (required q) → take (length (required q)) (map now slices) ≡ lists I (required q)
+    → q .«forbidden_count» ≡ length (forbidden q) → take (length (forbidden q)) (map now slices′) ≡ lists I (forbidden q)
+    → Ends (run (P .last) (P .root) (λ d. in-range (q .levels) (entry (P .level) d)) (q .budget) (size P + 1)
+    (begin (map now (take (q .«required_count») slices)) (map now (take (q .«forbidden_count») slices′)) (q .start))) out out′ r
+    → Ends (steps P I q (q .budget)) out out′ r
+unfolding steps
+run-steps P I q slices slices′ e f g h x = rw (lists-are I (required q) slices e f, lists-are I (forbidden q) slices′ g h) at x
+
+-- ---- the refusal
+
+module _ (P : Plant) (I : Index) (q : Query) (room : ℕ) {t : ℕ} (e : t ≡ indexes.refusal P I) where
+  pub refused-before : (t ≡ 0 → ⊥) → t ≡ refusal P I q room
+  unfolding refusal
+  refused-before z = e ∙ sym (otherwise-first (indexes.refusal P I) _ (λ o. z (e ∙ o)))
+
+  pub refused-here : {r : ℕ} → t ≡ 0 → r ≡ query-refusal (size P) room q → r ≡ refusal P I q room
+  unfolding refusal
+  refused-here z f = f ∙ sym (otherwise-next (indexes.refusal P I) _ (sym e ∙ z))
+
+-- ---- the answer
+
+told-refused : (n : ℕ) (e : End) → (n ≡ 0 → ⊥) → record { refusal = n; count = 0; position = 0; moves = 0 } ≡ told n e
+told-refused zero e h = absurd (h refl)
+told-refused (suc n) e h = refl
+
+written-refused : (n : ℕ) (e : End) (out : List ℕ) → (n ≡ 0 → ⊥) → out ≡ written n e out
+written-refused zero e out h = absurd (h refl)
+written-refused (suc n) e out h = refl
+
+-- what the contract of `search` says of an answer
+abbrev pub Searched : Plant → Index → Query → List ℕ → List ℕ → Answer → Type 0
+Searched P I q out out′ r =
+    (r ≡ answer P I q (length out)) × ((out′ ≡ answer-list P I q out) × (r .refusal ≡ 0 → Kept P I q (take (r .count) out′) (r .position) (r .moves)))
+
+module _ (P : Plant) (I : Index) (q : Query) {out : List ℕ} {n : ℕ} (e : n ≡ refusal P I q (length out)) where
+  pub searched-refused : (n ≡ 0 → ⊥) → Searched P I q out out (record { refusal = n; count = 0; position = 0; moves = 0 })
+  searched-refused z = (
+    rw e (told-refused (refusal P I q (length out)) _ (λ o. z (e ∙ o))),
+    (written-refused (refusal P I q (length out)) _ out (λ o. z (e ∙ o)), λ o. absurd (z o)),
+  )
+
+  pub searched : {out′ : List ℕ} {r : Listing} → n ≡ 0 → Ends (steps P I q (q .budget)) out out′ r
+      → Searched P I q out out′ (record { refusal = 0; count = r .count; position = r .position; moves = r .moves })
+  searched {out′} {r} z x =
+      let o : refusal P I q (length out) ≡ 0 = sym e ∙ z in
+      let listed = steps P I q (q .budget) .listed in
+      let t : take (length listed) out′ ≡ listed = rw (x .written) (take-at listed _ (length listed) refl) in
+      (rw (o, x .count, x .position, x .moves), (rw o (x .written), λ _. rw (x .count, x .position, x .moves, t) (kept P I q (length out) o)))

@@ -1,0 +1,18 @@
+-- `query::run::wanted` meets its contract: a level code is below 2^8.
+use Prim.Native.Nat.{_-_}
+use Rattle.query.proofs.run.wanted.Statement.{statement}
+use Rattle.query.proofs.run.wanted.Tie as tie
+use borrow.Author.Needs.{needs}
+use native.Mathlib.Omega.{arith}
+
+pub wanted-spec : {M : Type 1} → statement M
+wanted-spec =
+    tie.close
+    (tie.spec
+    (λ c. search needs)
+    (λ c. search needs)
+    (λ c. search needs)
+    (λ c. omega (arith, c .shared-slice-known2 .given (c .before .before .before .args .d - 1)))
+    (λ c κs. search needs)
+    (λ c. simp (c .before .before .if1 .taken) (c .in-range .ensures))
+    (λ c. simp (c .if1 .left)))

@@ -1,0 +1,6 @@
+pub mod Query
+pub mod Matching
+pub mod Steps
+pub mod Cursors
+pub mod Answer
+pub mod Promises

@@ -1,0 +1,85 @@
+// The run of an accepted query: its lists are looked up, and the cursors go along them.
+ghost use mathlib.Core.Path.{_≡_};
+ghost use mathlib.Core.Bool.{false};
+ghost use mathlib.Core.List.{map};
+ghost use Prim.Native.Nat.{_≤_};
+ghost use lib.ListN.{length, take};
+ghost use Rattle.laws.specs.Search.{any};
+ghost use Rattle.plant.specs.Plant.{plant};
+ghost use Rattle.index.specs.Index.{index, count, misplaced-term, list-of};
+ghost use Rattle.query.specs.Cursors.{Ends};
+ghost use Rattle.query.specs.Answer.{refusal, steps};
+use crate::Query;
+use crate::run::Listing;
+use crate::run::run;
+use index::list_of;
+
+// Puts the list of each of some terms to the front of `lists`, in the order of the terms.
+fn gather<'a>(
+    terms: &[u16],
+    starts: &[u32],
+    postings: &'a [u32],
+    named: &[u32],
+    lists: &mut [&'a [u32]; 8],
+)
+    requires { ⌜ (length (now named) ≤ 8) × (length (now lists) ≡ 8) ⌝ }
+    requires { ⌜ any (count (index (now terms) (now starts) (now postings))) (misplaced-term (index (now terms) (now starts) (now postings))) ≡ false ⌝ }
+    ensures { λ _. ⌜ length (now (lists .exit)) ≡ 8 ⌝ }
+    ensures { λ _. ⌜ take (length (now (named .entry))) (map now (now (lists .exit))) ≡ map (list-of (index (now (terms .entry)) (now (starts .entry)) (now (postings .entry)))) (now (named .entry)) ⌝ }
+{
+    let mut i = 0;
+    while i < named.len() {
+        let list = list_of(terms, starts, postings, named[i]);
+        lists[i] = list;
+        i += 1;
+    }
+}
+
+// The run of a query that is not refused.
+pub fn answered(
+    last: &[u16],
+    root: &[u16],
+    level: &[u8],
+    terms: &[u16],
+    starts: &[u32],
+    postings: &[u32],
+    query: Query,
+    out: &mut [u16],
+) -> Listing
+    requires { ⌜ refusal (plant (now last) (now root) (now level)) (index (now terms) (now starts) (now postings)) query (length (now out)) ≡ 0 ⌝ }
+    ensures { λ r. ⌜ Ends (steps (plant (now (last .entry)) (now (root .entry)) (now (level .entry))) (index (now (terms .entry)) (now (starts .entry)) (now (postings .entry))) query (query .budget)) (now (out .entry)) (now (out .exit)) r ⌝ }
+{
+    let none = &postings[0..0];
+    let mut required = [none; 8];
+    let mut forbidden = [none; 8];
+    let required_terms = query.required;
+    let required_count = query.required_count;
+    let forbidden_terms = query.forbidden;
+    let forbidden_count = query.forbidden_count;
+    gather(
+        terms,
+        starts,
+        postings,
+        &required_terms[..required_count],
+        &mut required,
+    );
+    gather(
+        terms,
+        starts,
+        postings,
+        &forbidden_terms[..forbidden_count],
+        &mut forbidden,
+    );
+    let levels = query.levels;
+    run(
+        last,
+        root,
+        level,
+        &required[..required_count],
+        &forbidden[..forbidden_count],
+        levels,
+        query.start,
+        query.budget,
+        out,
+    )
+}
