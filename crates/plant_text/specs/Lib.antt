@@ -1,0 +1,6 @@
+pub mod Form
+pub mod PlantText
+pub mod Rest
+pub mod Devices
+pub mod Terms
+pub mod Whole

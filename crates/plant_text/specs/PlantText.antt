@@ -1,0 +1,219 @@
+-- Plant text, read line by line: what it makes, and document 01's rows 20 to 29.
+use Prim.Native.Nat.{ℕ, suc, _+_, _-_, _*_, min}
+use mathlib.Core.Bool.{Bool, true, false, cond, _&&_, _||_, not}
+use mathlib.Core.List.{List, [], _∷_, _++_}
+use lib.Dec.{leb, ltb, eqb}
+use lib.ListN.{length, set, replicate}
+use Rattle.laws.specs.Rows.{pick}
+use Rattle.laws.specs.Tables.{entry}
+use Rattle.plant.specs.Plant.{Plant, plant, size}
+use Rattle.index.specs.Postings.{device, shadowed}
+use Rattle.index.specs.Index.{Index, index, count, list}
+use Rattle.text.specs.Reading.{Step, Read, made, no, unless, reading}
+use Rattle.plant_text.specs.Form.{form, numbered, never, is-close, is-unfinished}
+use Rattle.plant_text.specs.declared.lines.Form.{Form}
+use Rattle.plant_text.specs.declared.lines.Form.the-variants as form
+use Rattle.plant_text.specs.declared.Room.{Room}
+use Rattle.plant_text.specs.declared.Outcome.{Outcome}
+use Rattle.plant_text.specs.declared.Outcome.the-variants as outcome
+
+-- "The text opens with a plant line, then come devices, then marks, then the closing line": before the plant line; among the devices; between
+-- terms; among the postings of a term; after the closing line
+pub data Stage : Type 0 where
+  start devices terms postings closed : Stage
+
+-- what the lines read so far have made
+pub record State : Type 0 where
+  pub stage : Stage
+  pub opened : List ℕ  -- the open devices, the innermost first
+  pub plant : Plant
+  pub index : Index
+
+abbrev pub nothing : State
+nothing = record { stage = start; opened = []; plant = plant [] [] []; index = index [] [] [] }
+
+abbrev pub rank : Stage → ℕ
+rank start = 0
+rank devices = 1
+rank terms = 2
+rank postings = 3
+rank closed = 4
+
+abbrev pub is : Stage → State → Bool
+is s m = eqb (rank (m .stage)) (rank s)
+
+abbrev pub empty : List ℕ → Bool
+empty [] = true
+empty (x ∷ xs) = false
+
+-- the number of open brackets: the plant's, and those of the open devices or of the term
+abbrev pub brackets : Stage → List ℕ → ℕ
+brackets start ds = 0
+brackets devices ds = suc (length ds)
+brackets terms ds = 1
+brackets postings ds = 2
+brackets closed ds = 0
+
+-- the postings of the newest term
+abbrev pub current : State → List ℕ
+current m = list (m .index) (count (m .index))
+
+-- 21: "not a form, or a form that can't stand here"; a closing bracket can't be the first line
+abbrev pub stands : State → Form → Bool
+stands m form.Plant = is start m
+stands m (form.Device n) = is devices m
+stands m (form.Term n) = is terms m || (is devices m && empty (m .opened))
+stands m (form.Posting d s) = is postings m
+stands m form.Close = not (is start m)
+stands m form.Other = false
+stands m form.Unfinished = false
+
+-- 26: "a closing bracket with nothing open"
+abbrev pub unopened : State → Form → Bool
+unopened m f = is-close f && eqb (brackets (m .stage) (m .opened)) 0
+
+-- 22: "level over 255, mark outside 1..65,535, posting device outside 1..N"
+abbrev pub out-of-range : State → Form → Bool
+out-of-range m = numbered (λ n. ltb 255 n) (λ t. eqb t 0 || ltb 65535 t) (λ d. eqb d 0 || ltb (size (m .plant)) d)
+
+-- 23: "a 33rd open device"
+abbrev pub too-deep : State → Form → Bool
+too-deep m = numbered (λ n. leb 32 (length (m .opened))) never never
+
+-- 27: "a lent table has no place left for the line"
+abbrev pub no-place : Room → State → Form → Bool
+no-place r m =
+    numbered (λ n. leb (r .devices) (size (m .plant))) (λ t. leb (r .terms) (count (m .index)))
+    (λ d. leb (r .postings) (length (m .index .postings)))
+
+-- 28: "marks, or devices in a mark, not rising"
+abbrev pub not-rising : State → Form → Bool
+not-rising m =
+    numbered never (λ t. leb t (entry (m .index .terms) (count (m .index)))) (λ d. leb d (device (entry (current m) (length (current m)))))
+
+-- 29: "a redundant posting"
+abbrev pub is-redundant : State → Form → Bool
+is-redundant m = numbered never never (λ d. shadowed (m .plant .last) (current m) d)
+
+-- document 01's rows for a line of plant text, in its order: the first that applies, or 0. 25: "bytes after the closed plant"; 24: "bytes end,
+-- or a line is unfinished, before the plant closes"
+unfoldable pub refusal : Room → State → Form → ℕ
+refusal r m f =
+    pick (is closed m) 25
+    (pick (is-unfinished f) 24
+    (pick (not (stands m f)) 21
+    (pick (unopened m f) 26
+    (pick (out-of-range m f) 22
+    (pick (too-deep m f) 23
+    (pick (no-place r m f) 27
+    (pick (not-rising m f) 28
+    (pick (is-redundant m f) 29
+    0))))))))
+
+-- the outermost open device, or the device that opens
+abbrev pub outermost : List ℕ → ℕ → ℕ
+outermost [] d = d
+outermost (o ∷ os) d = outermost os o
+
+abbrev pub at-stage : Stage → State → State
+at-stage s m = record { stage = s; opened = m .opened; plant = m .plant; index = m .index }
+
+-- a device opens: "Numbers follow the order in which devices open"; its last device is known when it closes
+abbrev pub open-device : State → ℕ → State
+open-device m n = record {
+  stage = devices;
+  opened = (size (m .plant) + 1) ∷ m .opened;
+  plant = plant (m .plant .last ++ (0 ∷ [])) (m .plant .root ++ (outermost (m .opened) (size (m .plant) + 1) ∷ [])) (m .plant .level ++ (n ∷ []));
+  index = m .index;
+}
+
+abbrev pub open-term : State → ℕ → State
+open-term m t = record {
+  stage = postings;
+  opened = m .opened;
+  plant = m .plant;
+  index = index (m .index .terms ++ (t ∷ [])) (m .index .starts ++ (length (m .index .postings) ∷ [])) (m .index .postings);
+}
+
+-- "A posting is 2 times the device, plus 1 if it is for the whole branch."
+abbrev pub posting : ℕ → Bool → ℕ
+posting d shared = cond shared (2 * d + 1) (2 * d)
+
+abbrev pub add-posting : State → ℕ → Bool → State
+add-posting m d shared = record {
+  stage = postings;
+  opened = m .opened;
+  plant = m .plant;
+  index = index (m .index .terms) (m .index .starts) (m .index .postings ++ (posting d shared ∷ []));
+}
+
+-- the innermost open device closes: the last device of its branch is the last that opened; or the plant closes
+abbrev pub close-device : State → List ℕ → State
+close-device m [] = at-stage closed m
+close-device m (d ∷ ds) = record {
+  stage = devices;
+  opened = ds;
+  plant = plant (set (m .plant .last) (d - 1) (size (m .plant))) (m .plant .root) (m .plant .level);
+  index = m .index;
+}
+
+-- what a closing bracket closes
+abbrev pub close : State → Stage → State
+close m start = m
+close m devices = close-device m (m .opened)
+close m terms = at-stage closed m
+close m postings = at-stage terms m
+close m closed = m
+
+-- what a line that is not refused makes
+unfoldable pub next : State → Form → State
+next m form.Plant = at-stage devices m
+next m (form.Device n) = open-device m n
+next m (form.Term t) = open-term m t
+next m (form.Posting d s) = add-posting m d s
+next m form.Close = close m (m .stage)
+next m form.Other = m
+next m form.Unfinished = m
+
+-- what a whole line does, and what the end of the bytes does after some of a line: the text may end where the plant is closed
+abbrev pub line : Room → State → List ℕ → Step State
+line r m l = unless (refusal r m (form l)) (next m (form l))
+
+abbrev pub end : Room → State → List ℕ → Step State
+end r m tail = unless (pick (is closed m && empty tail) 0 (refusal r m form.Unfinished)) m
+
+-- what a text comes to, with room for so many devices, terms and postings; 20: "over 65,536 bytes (line 0)"
+unfoldable pub read : Room → List ℕ → Read State
+read r text = cond (ltb 65536 (length text)) (no 20 0) (reading (line r) (end r) nothing 1 text)
+
+-- the room of lent tables: a device has an entry in each of three, a term in each of two
+abbrev pub places : ℕ → ℕ → ℕ → ℕ → ℕ → ℕ → Room
+places l r v t s p = record { devices = min l (min r v); terms = min t s; postings = p }
+
+abbrev pub room : Plant → Index → Room
+room P I = places (length (P .last)) (length (P .root)) (length (P .level)) (length (I .terms)) (length (I .starts)) (length (I .postings))
+
+-- "Success gives the numbers of devices, marks and postings"; a refusal "gives the number and the line"
+abbrev pub answer : Read State → Outcome
+answer (made m) = outcome.Made (size (m .plant)) (count (m .index)) (length (m .index .postings))
+answer (no n k) = outcome.Refused n k
+
+-- what is left in the tables: "entries beyond those are 0. Any plant-text refusal sets every entry of every lent table to 0"
+abbrev pub kept : Read State → State
+kept (made m) = m
+kept (no n k) = nothing
+
+-- a table of n entries: l and then zeros
+abbrev pub filled : ℕ → List ℕ → List ℕ
+filled n l = l ++ replicate (n - length l) 0
+
+-- the device tables P and the index's tables I after a text is read into them
+abbrev pub plant-after : List ℕ → Plant → Index → Plant
+plant-after text P I =
+    let m = kept (read (room P I) text) in
+    plant (filled (length (P .last)) (m .plant .last)) (filled (length (P .root)) (m .plant .root)) (filled (length (P .level)) (m .plant .level))
+
+abbrev pub index-after : List ℕ → Plant → Index → Index
+index-after text P I =
+    let m = kept (read (room P I) text) in
+    index (filled (length (I .terms)) (m .index .terms)) (filled (length (I .starts)) (m .index .starts)) (filled (length (I .postings)) (m .index .postings))

@@ -1,0 +1,242 @@
+// The readers of terms and postings.
+ghost use mathlib.Core.Path.{_≡_};
+ghost use mathlib.Core.Bool.{true, _||_};
+ghost use Prim.Native.Nat.{_-_, _/_, _≤_, _<_};
+ghost use lib.Dec.{leb, ltb, eqb};
+ghost use lib.ListN.{length, take};
+ghost use lib.Seq.{slice};
+ghost use Rattle.laws.specs.Rows.{pick};
+ghost use Rattle.laws.specs.Tables.{entry, IsEntry};
+ghost use Rattle.index.specs.Postings.{device, shared, reach};
+ghost use Rattle.index.specs.Index.{index};
+ghost use Rattle.plant_text.specs.PlantText.{posting};
+ghost use Rattle.plant_text.specs.Rest.{Stands};
+ghost use Rattle.plant_text.specs.Terms.{Sound, Adds, PostsRead, OpensTerm, TermsRead, TermsStart};
+use crate::Room;
+use crate::lines::Ending;
+use crate::lines::Form;
+use crate::lines::Posted;
+use crate::lines::end_refusal;
+use crate::lines::line_at;
+use crate::lines::posting_of;
+use crate::lines::term_of;
+use text::Number;
+
+// A plant that has been closed: where what follows begins, its line, and the counts of terms and postings; or the number of the refusal and
+// its line.
+pub enum Closing {
+    Closed(usize, u32, usize, usize),
+    Refused(u32, u32),
+}
+
+// The newest of the postings from `begin` up to n, or 0.
+fn newest_posting(postings: &[u32], begin: usize, n: usize) -> u32
+    requires { ⌜ (begin ≤ n) × (n ≤ length (now postings)) ⌝ }
+    ensures { λ r. ⌜ r ≡ entry (slice begin n (now (postings .entry))) (n - begin) ⌝ }
+{
+    if begin < n { postings[n - 1] } else { 0 }
+}
+
+// The last device that posting q carries its term to.
+fn reach_of(last: &[u16], q: u32) -> u32
+    requires { ⌜ (shared q ≡ true → IsEntry (now last) (device q)) ⌝ }
+    ensures { λ r. ⌜ r ≡ reach (now (last .entry)) q ⌝ }
+{
+    let d = q / 2;
+    if q % 2 == 1 {
+        let i = (d - 1) as usize;
+        let end = last[i];
+        end as u32
+    } else {
+        d
+    }
+}
+
+// The posting for device d.
+fn posting_for(d: u64, shared: bool) -> u32
+    requires { ⌜ d ≤ 65535 ⌝ }
+    ensures { λ r. ⌜ r ≡ posting d shared ⌝ }
+{
+    let twice = 2 * d as u32;
+    if shared { twice + 1 } else { twice }
+}
+
+// Why a posting for device d is not added to a list whose newest posting is for device `newest` and reaches device `far`, after n of the `most`
+// that there is room for, in a plant of `count` devices; or 0.
+fn posting_refusal(d: u64, count: usize, most: usize, n: usize, newest: u32, far: u32) -> u32
+    ensures { λ r. ⌜ r ≡ pick (eqb d 0 || ltb count d) 22 (pick (leb most n) 27 (pick (leb d newest) 28 (pick (leb d far) 29 0))) ⌝ }
+{
+    if d == 0 {
+        return 22;
+    }
+    if (count as u64) < d {
+        return 22;
+    }
+    if most <= n {
+        return 27;
+    }
+    if d <= newest as u64 {
+        return 28;
+    }
+    if d <= far as u64 {
+        return 29;
+    }
+    0
+}
+
+// Adds posting n, for device d, to the list that starts at `begin`. Returns 0, or why it is refused.
+fn add_posting(
+    room: Room,
+    d: u64,
+    shared: bool,
+    count: usize,
+    begin: usize,
+    n: usize,
+    last: &[u16],
+    postings: &mut [u32],
+) -> u32
+    requires { ⌜ (count ≤ length (now last)) × (count < 65536) × (begin ≤ n) × (n ≤ room .postings) × (room .postings ≤ length (now postings)) ⌝ }
+    requires { ⌜ Sound (take count (now last)) (slice begin n (now postings)) ⌝ }
+    ensures { λ r. ⌜ Adds room (now (last .entry)) (now (postings .entry)) count begin n d shared (now (postings .exit)) r ⌝ }
+{
+    let most = room.postings;
+    let q = newest_posting(postings, begin, n);
+    let far = reach_of(last, q);
+    let x = posting_refusal(d, count, most, n, q / 2, far);
+    if x != 0 {
+        return x;
+    }
+    postings[n] = posting_for(d, shared);
+    0
+}
+
+// Reads a term's postings from `at` on, up to its end. Its first is posting `begin`.
+fn read_postings(
+    text: &[u8],
+    room: Room,
+    at: usize,
+    line: u32,
+    count: usize,
+    begin: usize,
+    last: &[u16],
+    postings: &mut [u32],
+) -> Ending
+    requires { ⌜ Stands (now text) at line begin ⌝ }
+    requires { ⌜ (count < at) × (count ≤ length (now last)) × (begin ≤ room .postings) × (room .postings ≤ length (now postings)) ⌝ }
+    ensures { λ r. ⌜ PostsRead room (now (text .entry)) (now (last .entry)) (now (postings .entry)) at line count begin (now (postings .exit)) r ⌝ }
+{
+    let mut a = at;
+    let mut k = line;
+    let mut n = begin;
+    loop {
+        let found = line_at(text, a);
+        let f = found.form;
+        let next = found.next;
+        let Posted::Here(d, shared) = posting_of(f) else {
+            let x = end_refusal(2, f);
+            if x != 0 {
+                return Ending::Refused(x, k);
+            }
+            return Ending::Ended(next, k + 1, n);
+        };
+        let x = add_posting(room, d, shared, count, begin, n, last, postings);
+        if x != 0 {
+            return Ending::Refused(x, k);
+        }
+        a = next;
+        k += 1;
+        n += 1;
+    }
+}
+
+// The newest of the first n terms, or 0.
+fn newest_term(terms: &[u16], n: usize) -> u16
+    requires { ⌜ n ≤ length (now terms) ⌝ }
+    ensures { λ r. ⌜ r ≡ entry (take n (now (terms .entry))) n ⌝ }
+{
+    if 0 < n { terms[n - 1] } else { 0 }
+}
+
+// Why a term of number v does not open after `newest`, after `count` of the `most` that there is room for; or 0.
+fn term_refusal(v: u64, most: usize, count: usize, newest: u16) -> u32
+    ensures { λ r. ⌜ r ≡ pick (eqb v 0 || ltb 65535 v) 22 (pick (leb most count) 27 (pick (leb v newest) 28 0)) ⌝ }
+{
+    if v == 0 {
+        return 22;
+    }
+    if 65535 < v {
+        return 22;
+    }
+    if most <= count {
+        return 27;
+    }
+    if v <= newest as u64 {
+        return 28;
+    }
+    0
+}
+
+// Opens term n + 1, of number v, with p postings before it. Returns 0, or why it is refused.
+fn open_term(room: Room, v: u64, n: usize, p: usize, terms: &mut [u16], starts: &mut [u32]) -> u32
+    requires { ⌜ (n ≤ room .terms) × (room .terms ≤ length (now terms)) × (room .terms ≤ length (now starts)) × (p < 65536) ⌝ }
+    ensures { λ r. ⌜ OpensTerm room (now (terms .entry)) (now (starts .entry)) n p v (now (terms .exit)) (now (starts .exit)) r ⌝ }
+{
+    let most = room.terms;
+    let newest = newest_term(terms, n);
+    let x = term_refusal(v, most, n, newest);
+    if x != 0 {
+        return x;
+    }
+    terms[n] = v as u16;
+    starts[n] = p as u32;
+    0
+}
+
+// Reads terms from a line of a form on, whose next line begins at `next`, to the end of the plant.
+pub fn read_terms(
+    text: &[u8],
+    room: Room,
+    form: Form,
+    next: usize,
+    line: u32,
+    count: usize,
+    last: &[u16],
+    terms: &mut [u16],
+    starts: &mut [u32],
+    postings: &mut [u32],
+) -> Closing
+    requires { ⌜ TermsStart room (now text) (now last) count (index (now terms) (now starts) (now postings)) form next line ⌝ }
+    ensures { λ r. ⌜ TermsRead room (now (text .entry)) (now (last .entry)) count (index (now (terms .entry)) (now (starts .entry)) (now (postings .entry))) form next line (index (now (terms .exit)) (now (starts .exit)) (now (postings .exit))) r ⌝ }
+{
+    let mut f = form;
+    let mut a = next;
+    let mut k = line;
+    let mut n: usize = 0;
+    let mut p: usize = 0;
+    loop {
+        let Number::Value(v) = term_of(f) else {
+            let x = end_refusal(1, f);
+            if x != 0 {
+                return Closing::Refused(x, k);
+            }
+            return Closing::Closed(a, k + 1, n, p);
+        };
+        let x = open_term(room, v, n, p, terms, starts);
+        if x != 0 {
+            return Closing::Refused(x, k);
+        }
+        match read_postings(text, room, a, k + 1, count, p, last, postings) {
+            Ending::Refused(y, l) => {
+                return Closing::Refused(y, l);
+            }
+            Ending::Ended(b, l, q) => {
+                let found = line_at(text, b);
+                f = found.form;
+                a = found.next;
+                k = l;
+                n += 1;
+                p = q;
+            }
+        }
+    }
+}

@@ -1,0 +1,3 @@
+-- Laws of query text.
+pub mod Rows
+pub mod Turns

@@ -1,0 +1,176 @@
+-- Query text (document 01: ask text), read line by line.
+use Prim.Native.Nat.{ℕ, _+_}
+use mathlib.Core.Bool.{Bool, true, false, cond, _&&_, _||_}
+use mathlib.Core.List.{List}
+use lib.Dec.{leb, ltb, eqb}
+use lib.ListN.{length, set}
+use Rattle.laws.specs.Rows.{pick}
+use Rattle.text.specs.Lines.{line-at}
+use Rattle.text.specs.Reading.{Step, to, Read, made, no, unless, reading}
+use Rattle.query.specs.Query.{empty}
+use Rattle.query.specs.declared.Query.{Query}
+use Rattle.query.specs.declared.Levels.{Levels}
+use Rattle.query_text.specs.Form.{form, capped-form}
+use Rattle.query_text.specs.declared.Form.{Form}
+use Rattle.query_text.specs.declared.Form.the-variants.{Open, Required, Forbidden, Level, Start, Budget, Close, Other, Unfinished}
+use Rattle.query_text.specs.declared.Draft.{Draft}
+use Rattle.query_text.specs.declared.QueryRead.{QueryRead}
+
+-- The order of lines. Each kind of line has a rank, and the stage is the lowest rank that the next line may have.
+-- What is no form has rank 0, below every stage.
+abbrev pub rank : Form → ℕ
+rank Open = 1
+rank (Required n) = 2
+rank (Forbidden n) = 3
+rank (Level low high) = 4
+rank (Start n) = 5
+rank (Budget n) = 6
+rank Close = 7
+rank Other = 0
+rank Unfinished = 0
+
+-- the stage after a line: need and not lines may repeat, "at most one each of level, from and moves"
+abbrev pub next-stage : Form → ℕ
+next-stage Open = 2
+next-stage (Required n) = 2
+next-stage (Forbidden n) = 3
+next-stage (Level low high) = 5
+next-stage (Start n) = 6
+next-stage (Budget n) = 7
+next-stage Close = 8
+next-stage Other = 0
+next-stage Unfinished = 0
+
+-- a line whose rank is below the stage, or a first line that does not open the query
+abbrev pub out-of-order : ℕ → ℕ → Bool
+out-of-order stage r = ltb r stage || (eqb stage 1 && ltb 1 r)
+
+-- nothing is read yet: "What is absent takes the empty ask's setting."
+abbrev pub begun : Draft
+begun = record { stage = 1; query = empty }
+
+abbrev pub closed : Draft → Bool
+closed d = eqb (d .stage) 8
+
+abbrev pub unfinished : Form → Bool
+unfinished Open = false
+unfinished (Required n) = false
+unfinished (Forbidden n) = false
+unfinished (Level low high) = false
+unfinished (Start n) = false
+unfinished (Budget n) = false
+unfinished Close = false
+unfinished Other = false
+unfinished Unfinished = true
+
+-- 32: "a number over 4,294,967,295"
+abbrev pub over : Form → Bool
+over Open = false
+over (Required n) = ltb 4294967295 n
+over (Forbidden n) = ltb 4294967295 n
+over (Level low high) = ltb 4294967295 low || ltb 4294967295 high
+over (Start n) = ltb 4294967295 n
+over (Budget n) = ltb 4294967295 n
+over Close = false
+over Other = false
+over Unfinished = false
+
+-- 35: "a ninth need or not line"
+abbrev pub ninth : Query → Form → Bool
+ninth q Open = false
+ninth q (Required n) = leb 8 (q .«required_count»)
+ninth q (Forbidden n) = leb 8 (q .«forbidden_count»)
+ninth q (Level low high) = false
+ninth q (Start n) = false
+ninth q (Budget n) = false
+ninth q Close = false
+ninth q Other = false
+ninth q Unfinished = false
+
+-- document 01's rows for one line, in the table's order
+unfoldable pub line-refusal : Draft → Form → ℕ
+line-refusal d f =
+    pick (closed d) 34
+    (pick (unfinished f) 33
+    (pick (out-of-order (d .stage) (rank f)) 31
+    (pick (over f) 32
+    (pick (ninth (d .query) f) 35
+    0))))
+
+-- the query with one line more
+abbrev pub with-form : Query → Form → Query
+with-form q (Required n) = record {
+  required = set (q .required) (q .«required_count») n;
+  «required_count» = q .«required_count» + 1;
+  forbidden = q .forbidden;
+  «forbidden_count» = q .«forbidden_count»;
+  levels = q .levels;
+  start = q .start;
+  budget = q .budget;
+}
+with-form q (Forbidden n) = record {
+  required = q .required;
+  «required_count» = q .«required_count»;
+  forbidden = set (q .forbidden) (q .«forbidden_count») n;
+  «forbidden_count» = q .«forbidden_count» + 1;
+  levels = q .levels;
+  start = q .start;
+  budget = q .budget;
+}
+with-form q (Level low high) = record {
+  required = q .required;
+  «required_count» = q .«required_count»;
+  forbidden = q .forbidden;
+  «forbidden_count» = q .«forbidden_count»;
+  levels = Levels.Range low high;
+  start = q .start;
+  budget = q .budget;
+}
+with-form q (Start n) = record {
+  required = q .required;
+  «required_count» = q .«required_count»;
+  forbidden = q .forbidden;
+  «forbidden_count» = q .«forbidden_count»;
+  levels = q .levels;
+  start = n;
+  budget = q .budget;
+}
+with-form q (Budget n) = record {
+  required = q .required;
+  «required_count» = q .«required_count»;
+  forbidden = q .forbidden;
+  «forbidden_count» = q .«forbidden_count»;
+  levels = q .levels;
+  start = q .start;
+  budget = n;
+}
+with-form q Open = q
+with-form q Close = q
+with-form q Other = q
+with-form q Unfinished = q
+
+abbrev pub with-line : Draft → Form → Draft
+with-line d f = record { stage = next-stage f; query = with-form (d .query) f }
+
+-- a line, and the end of the text: nothing may be left once the query is closed, and it may not end before
+abbrev pub step : Draft → Form → Step Draft
+step d f = unless (line-refusal d f) (with-line d f)
+
+abbrev pub line : Draft → List ℕ → Step Draft
+line d l = step d (form l)
+
+abbrev pub end : Draft → List ℕ → Step Draft
+end d tail = cond (closed d && eqb (length tail) 0) (to d) (step d Unfinished)
+
+-- "A refusal gives number and line and an empty ask."
+abbrev pub told : Read Draft → QueryRead
+told (made d) = record { refusal = 0; line = 0; query = d .query }
+told (no n k) = record { refusal = n; line = k; query = empty }
+
+-- 30: "over 4,096 bytes (line 0)"
+unfoldable pub read : List ℕ → QueryRead
+read t = told (cond (ltb 4096 (length t)) (no 30 0) (reading line end begun 1 t))
+
+-- the form of the line at an index, its numbers up to the limit
+abbrev pub form-at : List ℕ → ℕ → Form
+form-at t at = cond (ltb (at + length (line-at t at)) (length t)) (capped-form 4294967295 (form (line-at t at))) Unfinished

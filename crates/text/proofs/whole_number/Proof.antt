@@ -1,0 +1,15 @@
+-- `text::whole_number` meets its contract.
+use denote.Ref.{now}
+use borrow.Author.Needs.{needs}
+use Rattle.text.specs.Words.{inside}
+use Rattle.text.proofs.Words.{number-in}
+use Rattle.text.proofs.whole_number.Statement.{statement}
+use Rattle.text.proofs.whole_number.Tie as tie
+
+returns : tie.Need-returns
+returns c =
+    let a = c .before .before .before .before .args in
+    number-in (a .limit) (inside (now (a .word)) (now (a .line))) (c .before .inside .ensures) (c .number-of .ensures)
+
+pub whole-number-spec : {M : Type 1} → statement M
+whole-number-spec = tie.close (tie.spec (λ c κs. search needs) (λ c κs. search needs) returns)
