@@ -1,0 +1,9 @@
+-- What comes of reading an input.
+use Prim.Native.Nat.{ℕ, _≤_}
+use Rattle.plant_search.specs.declared.Input.{Input}
+use Rattle.plant_search.specs.declared.Input.the-variants.{Bytes, Unreadable}
+
+-- what was read lies within room for n bytes
+abbrev pub Within : ℕ → Input → Type 0
+Within n (Bytes k) = k ≤ n
+Within n Unreadable = Unit {0}

@@ -1,0 +1,72 @@
+-- What each part of the answer comes to, and that it fits the buffer.
+use Prim.Native.Nat.{ℕ, zero, suc, _+_, _^_, _≤_, _<_}
+use mathlib.Core.Path.{_≡_, refl, ap, _∙_}
+use mathlib.Core.List.{List}
+use native.Mathlib.Omega.{arith}
+use lib.ListN.{length, take, length-append, length-take}
+use lib.Seq.{length-sets, sets-eq, take-append-seam}
+use Rattle.plant.specs.Plant.{Plant}
+use Rattle.index.specs.Index.{Index}
+use Rattle.query.specs.Steps.{End}
+use Rattle.query.specs.Answer.{told, written}
+use Rattle.query.specs.declared.Query.{Query}
+use Rattle.query.specs.declared.Answer.{Answer}
+use Rattle.text.specs.Reading.{made, no}
+use Rattle.plant_text.specs.PlantText as plant-texts
+use Rattle.plant_text.specs.PlantText.{State}
+use Rattle.query_text.specs.QueryText as query-texts
+use Rattle.respond.specs.Lines.{word-plant, word-ask, word-query, numbered, numbered₂, answer-text}
+use Rattle.respond.specs.Puts.{Room, Puts}
+use Rattle.respond.specs.Respond.{program-room, of-run, of-search, of-query, of-query-text, respond, Responds}
+use Rattle.respond.proofs.Decimals.{decimal-short}
+
+-- a line of two numbers of ten digits each
+pub numbered₂-room : (w : List ℕ) {n m : ℕ} → n < 10 ^ 10 → m < 10 ^ 10 → length w + 23 ≤ 16384 → Room 0 (numbered₂ w n m)
+numbered₂-room w {n} {m} h g r =
+    record { room = simp (length-append) (omega (arith, decimal-short 9 n h, decimal-short 9 m g)) }
+
+-- the search refuses the query, or lists
+pub run-refused : (a : Answer) (n : ℕ) (e : End) → a ≡ told n e → (a .refusal ≡ 0 → ⊥) → numbered word-query (a .refusal) ≡ of-run n e
+run-refused a zero e t h = absurd (h (ap (λ x. x .refusal) t))
+run-refused a (suc n) e t h = rw t
+
+pub run-listed : (a : Answer) (n : ℕ) (e : End) (out out′ : List ℕ) → a ≡ told n e → out′ ≡ written n e out → a .refusal ≡ 0 →
+    answer-text (take (a .count) out′) (a .position) (a .moves) ≡ of-run n e
+run-listed a zero e out out′ t w h = rw (t, w, take-append-seam)
+run-listed a (suc n) e out out′ t w h = absurd (omega (arith, ap (λ x. x .refusal) t))
+
+pub run-count : (a : Answer) (n : ℕ) (e : End) (out out′ : List ℕ) → a ≡ told n e → out′ ≡ written n e out → a .count ≤ length out′
+run-count a zero e out out′ t w = rw (t, w, length-append) (omega arith)
+run-count a (suc n) e out out′ t w = rw t (omega arith)
+
+-- the query text is refused, or read
+pub query-refused : (P : Plant) (I : Index) (n line : ℕ) (q : Query) → (n ≡ 0 → ⊥) → numbered₂ word-ask n line ≡ of-query P I n line q
+query-refused P I zero line q h = absurd (h refl)
+query-refused P I (suc n) line q h = refl
+
+pub query-read : (P : Plant) (I : Index) (n line : ℕ) (q : Query) → n ≡ 0 → of-search P I q ≡ of-query P I n line q
+query-read P I n line q h = rw h
+
+-- the plant text is refused, or read
+module _ (text query : List ℕ) where
+  pub plant-refused : (n line : ℕ) → plant-texts.read program-room text ≡ no n line → numbered₂ word-plant n line ≡ respond text query
+  unfolding respond
+  plant-refused n line e = rw e
+
+  pub plant-read : (P : Plant) (I : Index) (m : State) → plant-texts.read program-room text ≡ made m → P ≡ m .plant → I ≡ m .index →
+      of-query-text P I (query-texts.read query) ≡ respond text query
+  unfolding respond
+  plant-read P I m e p i = rw (e, p, i)
+
+-- the whole, from what is put at the front of the buffer
+pub responds : {plant query out out′ bytes : List ℕ} {n : ℕ} → length out ≡ 16384 → Puts out 0 bytes out′ n → bytes ≡ respond plant query →
+    Responds plant query out out′ n
+responds {out} {out′} {bytes} {n} l p e =
+    let fits : 0 + length bytes ≤ length out = omega (arith, p .moved, p .within, l) in
+    let long : length out′ ≡ length out = ap length (p .stored) ∙ length-sets out 0 bytes in
+    record {
+      bytes = rw (← e) (p .stored ∙ sets-eq bytes out 0 fits ∙ (let z : 0 + length bytes ≡ length bytes = omega arith in rw z));
+      counted = rw (← e) (p .moved ∙ omega arith);
+      within = omega (arith, p .within);
+      taken = simp length-take (omega (arith, p .within));
+    }

@@ -1,0 +1,63 @@
+-- `respond_search` meets its contract: a refusal or the listing, as the search answers; its count lies within the list.
+use borrow.Author.Needs.{needs}
+use Rattle.respond.proofs.respond_search.Statement.{statement}
+use Rattle.respond.proofs.respond_search.Tie as tie
+use native.Mathlib.Omega.{arith}
+use denote.Ref.{now}
+use Prim.Native.Nat.{_≤_}
+use lib.ListN.{length, length-take}
+use Rattle.plant.specs.Plant.{Plant, plant}
+use Rattle.index.specs.Index.{Index, index}
+use Rattle.query.specs.Answer.{refusal, steps}
+use Rattle.respond.specs.Lines.{word-query}
+use Rattle.respond.proofs.Writing.{puts-as}
+use Rattle.respond.proofs.Listing.{numbered-room}
+use Rattle.respond.proofs.Parts.{run-refused, run-listed, run-count}
+
+abbrev P : tie.Start → Plant
+P z = plant (now (z .args .last)) (now (z .args .root)) (now (z .args .level))
+
+abbrev I : tie.Start → Index
+I z = index (now (z .args .terms)) (now (z .args .starts)) (now (z .args .postings))
+
+count-fits : (c : tie.After-search) → c .search .result .count ≤ length (c .search .last .1 .1 .1 .1 .1 .1 .1 .0)
+count-fits c =
+    let z = c .before .before .before .before .before .before .before .before in
+    let q = z .args .query in
+    run-count (c .search .result) (refusal (P z) (I z) q 1024) (steps (P z) (I z) q (q .budget)) _ _ (c .search .ensures .0) (c .search .ensures .1 .0)
+
+returns : tie.Need-returns
+returns c =
+    let s = c .before .before .before .before .before in
+    let z = c .before .before .before .before .before .before .before .before .before .before .before .before .before in
+    let q = z .args .query in (
+      puts-as (c .put-numbered .ensures .0)
+          (run-refused (s .search .result) (refusal (P z) (I z) q 1024) (steps (P z) (I z) q (q .budget)) (s .search .ensures .0) (c .before .before .before .if1 .taken)),
+      c .put-numbered .ensures .1,
+    )
+
+returns-2 : tie.Need-returns-2
+returns-2 c =
+    let s = c .before .before .before .before .before .before in
+    let z = c .before .before .before .before .before .before .before .before .before .before .before .before .before .before in
+    let q = z .args .query in (
+      puts-as (c .put-answer .ensures .0)
+          (run-listed (s .search .result) (refusal (P z) (I z) q 1024) (steps (P z) (I z) q (q .budget)) _ _ (s .search .ensures .0) (s .search .ensures .1 .0)
+          (c .before .before .before .before .if1 .left)),
+      c .put-answer .ensures .1,
+    )
+
+pub respond-search-spec : {M : Type 1} → statement M
+respond-search-spec =
+    tie.close
+    (tie.spec
+    (λ c. search needs)
+    (λ c κs. search needs)
+    (λ c. search needs)
+    (λ c κs. numbered-room word-query 9 (omega arith) (omega arith))
+    returns
+    (λ c. search needs)
+    (λ c. count-fits (c .before .before .before .before))
+    (λ c. simp length-take (omega (arith, count-fits (c .before .before .before .before .before))))
+    (λ c κs. simp length-take (omega arith))
+    returns-2)
