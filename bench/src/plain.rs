@@ -1,0 +1,233 @@
+//! The same checks and cursor steps in plain Rust, as one would write them without proofs.
+use crate::paper::{Answer, Query, Tables};
+
+fn device(posting: u32) -> usize {
+    (posting >> 1) as usize
+}
+
+fn reach(last: &[u16], posting: u32) -> usize {
+    if posting & 1 == 1 {
+        last[device(posting) - 1] as usize
+    } else {
+        device(posting)
+    }
+}
+
+/// Refusals 1 to 9, each in one pass.
+pub fn check(t: &Tables) -> u32 {
+    let n = t.last.len();
+    if t.root.len() != n || t.level.len() != n || n > 65_535 {
+        return 1;
+    }
+    if t.last.iter().enumerate().any(|(i, &end)| (end as usize) < i + 1 || n < end as usize) {
+        return 2;
+    }
+    if (1..=n).rev().any(|d| overlaps(&t.last, d)) {
+        return 3;
+    }
+    if wrong_root(&t.last, &t.root) {
+        return 4;
+    }
+    if t.starts.len() != t.terms.len() || t.terms.len() > 8_192 || t.postings.len() > 1_048_576 {
+        return 5;
+    }
+    if t.terms.first() == Some(&0) || t.terms.windows(2).any(|w| w[1] <= w[0]) {
+        return 6;
+    }
+    let first = t.starts.first().map_or(t.postings.len(), |&s| s as usize);
+    let end = t.starts.last().map_or(0, |&s| s as usize);
+    if first != 0 || end > t.postings.len() || t.starts.windows(2).any(|w| w[1] < w[0]) {
+        return 7;
+    }
+    if (0..t.starts.len()).any(|k| misplaced(n, list(t, k))) {
+        return 8;
+    }
+    if (0..t.starts.len()).any(|k| redundant(&t.last, list(t, k))) {
+        return 9;
+    }
+    0
+}
+
+/// Whether the branch of d overlaps another, where no later one does: goes over its children.
+fn overlaps(last: &[u16], d: usize) -> bool {
+    let end = last[d - 1] as usize;
+    let mut child = d + 1;
+    while child <= end {
+        let child_end = last[child - 1] as usize;
+        if end < child_end {
+            return true;
+        }
+        child = child_end + 1;
+    }
+    false
+}
+
+fn wrong_root(last: &[u16], root: &[u16]) -> bool {
+    let mut tree = 1;
+    for (i, &r) in root.iter().enumerate() {
+        if (last[tree - 1] as usize) < i + 1 {
+            tree = i + 1;
+        }
+        if r as usize != tree {
+            return true;
+        }
+    }
+    false
+}
+
+fn misplaced(n: usize, list: &[u32]) -> bool {
+    let mut before = 0;
+    for &posting in list {
+        if device(posting) <= before || n < device(posting) {
+            return true;
+        }
+        before = device(posting);
+    }
+    false
+}
+
+fn redundant(last: &[u16], list: &[u32]) -> bool {
+    let mut before = 0;
+    for &posting in list {
+        if device(posting) <= before {
+            return true;
+        }
+        before = reach(last, posting);
+    }
+    false
+}
+
+fn list(t: &Tables, k: usize) -> &[u32] {
+    let end = t.starts.get(k + 1).map_or(t.postings.len(), |&s| s as usize);
+    &t.postings[t.starts[k] as usize..end]
+}
+
+pub fn list_of(t: &Tables, term: u32) -> &[u32] {
+    match t.terms.binary_search(&(term as u16)) {
+        Ok(k) => list(t, k),
+        Err(_) => &[],
+    }
+}
+
+/// The first index from `from` on whose device is at least `target`: doubling steps, then halving.
+fn seek(list: &[u32], from: usize, target: usize) -> usize {
+    let mut low = from;
+    let mut step = 1;
+    while low + step <= list.len() && device(list[low + step - 1]) < target {
+        low += step;
+        step *= 2;
+    }
+    let mut high = (low + step - 1).min(list.len());
+    while low < high {
+        let middle = (low + high) / 2;
+        if device(list[middle]) < target {
+            low = middle + 1;
+        } else {
+            high = middle;
+        }
+    }
+    low
+}
+
+struct Cursor<'a> {
+    list: &'a [u32],
+    at: usize,
+}
+
+impl Cursor<'_> {
+    /// Brings the cursor to position p; false: the next move would exceed the budget.
+    fn bring(&mut self, t: &Tables, p: usize, moves: &mut u32, budget: u32) -> bool {
+        while let Some(&posting) = self.list.get(self.at) {
+            if p < device(posting) || p <= reach(&t.last, posting) {
+                return true;
+            }
+            if *moves == budget {
+                return false;
+            }
+            *moves += 1;
+            let root = t.root[p - 1] as usize;
+            let end = t.last[device(posting) - 1] as usize;
+            let target = if device(posting) < root {
+                root
+            } else if end < p {
+                end + 1
+            } else {
+                0
+            };
+            self.at = seek(self.list, self.at + 1, target);
+        }
+        true
+    }
+}
+
+fn refusal(t: &Tables, q: &Query, room: usize) -> u32 {
+    if q.required.len() > 8 || q.forbidden.len() > 8 {
+        return 10;
+    }
+    if q.required.iter().chain(&q.forbidden).any(|&x| x == 0 || x > 65_535) {
+        return 11;
+    }
+    if q.levels.is_some_and(|(low, high)| high < low || high > 254) {
+        return 12;
+    }
+    if q.start == 0 || q.start as usize > t.last.len() + 1 {
+        return 13;
+    }
+    if room < t.last.len() {
+        return 14;
+    }
+    0
+}
+
+/// The search call whole: refusals 1 to 14, then the steps.
+pub fn search(t: &Tables, q: &Query, answer: &mut [u16]) -> Answer {
+    let refused = check(t);
+    if refused != 0 {
+        return Answer { refusal: refused, ..Answer::default() };
+    }
+    steps(t, q, answer)
+}
+
+/// The query's own refusals and the steps, for tables that were checked.
+pub fn steps(t: &Tables, q: &Query, answer: &mut [u16]) -> Answer {
+    let refusal = refusal(t, q, answer.len());
+    if refusal != 0 {
+        return Answer { refusal, ..Answer::default() };
+    }
+    let cursors = |terms: &[u32]| -> [Cursor; 8] {
+        std::array::from_fn(|i| Cursor { list: terms.get(i).map_or(&[], |&x| list_of(t, x)), at: 0 })
+    };
+    let (mut required, mut forbidden) = (cursors(&q.required), cursors(&q.forbidden));
+    let required = &mut required[..q.required.len()];
+    let forbidden = &mut forbidden[..q.forbidden.len()];
+    let n = t.last.len();
+    let (mut p, mut moves, mut count) = (q.start as usize, 0, 0);
+    'rounds: while p <= n {
+        for cursor in required.iter_mut() {
+            if !cursor.bring(t, p, &mut moves, q.budget) {
+                break 'rounds;
+            }
+            let c = cursor.list.get(cursor.at).map_or(n + 1, |&x| device(x));
+            if p < c {
+                p = c;
+                continue 'rounds;
+            }
+        }
+        for cursor in forbidden.iter_mut() {
+            if !cursor.bring(t, p, &mut moves, q.budget) {
+                break 'rounds;
+            }
+            if let Some(&posting) = cursor.list.get(cursor.at).filter(|&&x| device(x) <= p) {
+                p = reach(&t.last, posting) + 1;
+                continue 'rounds;
+            }
+        }
+        let code = t.level[p - 1] as u32;
+        if q.levels.is_none_or(|(low, high)| low <= code && code <= high) {
+            answer[count] = p as u16;
+            count += 1;
+        }
+        p += 1;
+    }
+    Answer { refusal: 0, count: count as u32, position: p as u32, moves }
+}

@@ -1,0 +1,107 @@
+//! Plants of exact sizes, and queries over them.
+use crate::paper::{device_of, Query, Tables};
+use crate::random::Random;
+
+/// Devices, terms, postings.
+#[derive(Clone, Copy)]
+pub struct Size(pub usize, pub usize, pub usize);
+
+/// A forest of trees of up to eight tiers, their sizes spread widely.
+fn forest(r: &mut Random, n: usize) -> Tables {
+    let mut t = Tables::default();
+    let mut open: Vec<usize> = vec![];
+    for index in 0..n {
+        while open.len() >= 8 || (!open.is_empty() && r.one_in(2)) {
+            t.last[open.pop().unwrap()] = index as u16;
+        }
+        open.push(index);
+        t.last.push(n as u16);
+        t.root.push(open[0] as u16 + 1);
+        t.level.push(if r.one_in(20) { 255 } else { r.between(60, 180) as u8 });
+    }
+    t
+}
+
+/// A list of about `length` postings spread over the plant; three in ten are shared.
+fn list(r: &mut Random, t: &Tables, length: usize) -> Vec<u32> {
+    let gap = (t.size() / length.max(1)).max(1);
+    let mut list = vec![];
+    let mut d = r.between(1, 2 * gap);
+    while d <= t.size() && list.len() < length {
+        let shared = r.below(10) < 3;
+        list.push(2 * d as u32 + shared as u32);
+        let end = if shared { t.last[d - 1] as usize } else { d };
+        d = end + r.between(1, 2 * gap - 1);
+    }
+    list
+}
+
+/// Puts one private posting into the list, where the device is free.
+fn put(r: &mut Random, t: &Tables, list: &mut Vec<u32>) -> usize {
+    let d = r.between(1, t.size());
+    let at = list.partition_point(|&q| device_of(q) < d);
+    let taken = list.get(at).is_some_and(|&q| device_of(q) == d);
+    let carried = at > 0 && list[at - 1] % 2 == 1 && d <= t.last[device_of(list[at - 1]) - 1] as usize;
+    if taken || carried {
+        return 0;
+    }
+    list.insert(at, 2 * d as u32);
+    1
+}
+
+/// A sound plant of exactly this size. A few lists are long and most are short, as terms are in any collection.
+pub fn plant(r: &mut Random, Size(n, terms, postings): Size) -> Tables {
+    let mut t = forest(r, n);
+    let weight = |k: usize| 1.0 / ((k + 1) as f64).powf(0.7);
+    let total: f64 = (0..terms).map(weight).sum();
+    let mut lists: Vec<Vec<u32>> = vec![];
+    for k in 0..terms {
+        let length = (weight(k) / total * postings as f64) as usize;
+        lists.push(list(r, &t, length.min(n / 2)));
+    }
+    let mut left = postings - lists.iter().map(Vec::len).sum::<usize>();
+    while left > 0 {
+        let k = r.below(terms);
+        left -= put(r, &t, &mut lists[k]);
+    }
+    for k in (1..terms).rev() {
+        lists.swap(k, r.below(k + 1));
+    }
+    let mut term = 0;
+    for list in lists {
+        term += r.between(1, 65_535 / terms);
+        t.terms.push(term as u16);
+        t.starts.push(t.postings.len() as u32);
+        t.postings.extend(list);
+    }
+    t
+}
+
+/// A kind of query: its name, required terms, forbidden terms, whether there is a level range.
+pub type Kind = (&'static str, usize, usize, bool);
+
+pub const KINDS: [Kind; 5] = [
+    ("1 required", 1, 0, false),
+    ("2 required", 2, 0, false),
+    ("2 required, 1 forbidden", 2, 1, false),
+    ("1 required, a level range", 1, 0, true),
+    ("3 required, 2 forbidden, a level range", 3, 2, true),
+];
+
+/// Queries of a kind. Common terms: each is as likely as its list is long; else all are equally likely.
+pub fn queries(r: &mut Random, t: &Tables, kind: Kind, common: bool, count: usize) -> Vec<Query> {
+    let (_, required, forbidden, ranged) = kind;
+    let term = |r: &mut Random| {
+        let at = r.below(t.postings.len()) as u32;
+        let k = if common { t.starts.partition_point(|&s| s <= at) - 1 } else { r.below(t.terms.len()) };
+        t.terms[k] as u32
+    };
+    let query = |r: &mut Random| Query {
+        required: (0..required).map(|_| term(r)).collect(),
+        forbidden: (0..forbidden).map(|_| term(r)).collect(),
+        levels: ranged.then_some((100, 140)),
+        start: 1,
+        budget: u32::MAX,
+    };
+    (0..count).map(|_| query(r)).collect()
+}

@@ -1,0 +1,136 @@
+//! SQLite in memory: the unshared lists as one table keyed by term and device, a prepared statement for each shape of query.
+use crate::paper::Query;
+use crate::unshared::Unshared;
+use std::collections::HashMap;
+use std::ffi::{c_char, c_int, c_void, CString};
+
+#[repr(C)]
+struct Handle {
+    _opaque: [u8; 0],
+}
+
+extern "C" {
+    fn sqlite3_open(path: *const c_char, db: *mut *mut Handle) -> c_int;
+    fn sqlite3_close(db: *mut Handle) -> c_int;
+    fn sqlite3_exec(
+        db: *mut Handle, sql: *const c_char, each: *const c_void, with: *const c_void, error: *mut *mut c_char,
+    ) -> c_int;
+    fn sqlite3_prepare_v2(
+        db: *mut Handle, sql: *const c_char, length: c_int, statement: *mut *mut Handle, rest: *mut *const c_char,
+    ) -> c_int;
+    fn sqlite3_bind_int64(statement: *mut Handle, at: c_int, value: i64) -> c_int;
+    fn sqlite3_step(statement: *mut Handle) -> c_int;
+    fn sqlite3_column_int(statement: *mut Handle, at: c_int) -> c_int;
+    fn sqlite3_reset(statement: *mut Handle) -> c_int;
+    fn sqlite3_finalize(statement: *mut Handle) -> c_int;
+}
+
+const ROW: c_int = 100;
+
+/// How many required terms, how many forbidden, and whether there is a level range.
+type Shape = (usize, usize, bool);
+
+pub struct Database {
+    db: *mut Handle,
+    statements: HashMap<Shape, *mut Handle>,
+}
+
+impl Database {
+    pub fn new(unshared: &Unshared, level: &[u8]) -> Database {
+        let mut db = std::ptr::null_mut();
+        let path = CString::new(":memory:").unwrap();
+        assert_eq!(unsafe { sqlite3_open(path.as_ptr(), &mut db) }, 0);
+        let database = Database { db, statements: HashMap::new() };
+        database.run("CREATE TABLE device (number INTEGER PRIMARY KEY, level INTEGER NOT NULL)");
+        database.run("CREATE TABLE carries (term INTEGER, device INTEGER, PRIMARY KEY (term, device)) WITHOUT ROWID");
+        database.run("BEGIN");
+        let devices = level.iter().enumerate().map(|(i, &code)| [i as i64 + 1, code as i64]);
+        database.fill("INSERT INTO device VALUES (?1, ?2)", devices);
+        let mut terms: Vec<_> = unshared.lists.iter().collect();
+        terms.sort();
+        let rows = terms.iter().flat_map(|(&term, list)| list.iter().map(move |&d| [term as i64, d as i64]));
+        database.fill("INSERT INTO carries VALUES (?1, ?2)", rows);
+        database.run("COMMIT");
+        database.run("ANALYZE");
+        database
+    }
+
+    fn run(&self, sql: &str) {
+        let text = CString::new(sql).unwrap();
+        let none = std::ptr::null();
+        let done = unsafe { sqlite3_exec(self.db, text.as_ptr(), none, none, std::ptr::null_mut()) };
+        assert_eq!(done, 0, "{sql}");
+    }
+
+    fn prepare(&self, sql: &str) -> *mut Handle {
+        let text = CString::new(sql).unwrap();
+        let mut statement = std::ptr::null_mut();
+        let done = unsafe { sqlite3_prepare_v2(self.db, text.as_ptr(), -1, &mut statement, std::ptr::null_mut()) };
+        assert_eq!(done, 0, "{sql}");
+        statement
+    }
+
+    fn fill(&self, sql: &str, rows: impl Iterator<Item = [i64; 2]>) {
+        let statement = self.prepare(sql);
+        for row in rows {
+            unsafe {
+                sqlite3_bind_int64(statement, 1, row[0]);
+                sqlite3_bind_int64(statement, 2, row[1]);
+                sqlite3_step(statement);
+                sqlite3_reset(statement);
+            }
+        }
+        unsafe { sqlite3_finalize(statement) };
+    }
+
+    fn sql((required, forbidden, ranged): Shape) -> String {
+        let mut sql = String::from("SELECT c1.device FROM carries c1");
+        for k in 2..=required {
+            sql += &format!(" JOIN carries c{k} ON c{k}.term = ?{k} AND c{k}.device = c1.device");
+        }
+        let mut next = required + 1;
+        if ranged {
+            sql += &format!(" JOIN device d ON d.number = c1.device AND d.level BETWEEN ?{next} AND ?{}", next + 1);
+            next += 2;
+        }
+        sql += " WHERE c1.term = ?1";
+        for k in next..next + forbidden {
+            sql += &format!(" AND NOT EXISTS (SELECT 1 FROM carries WHERE term = ?{k} AND device = c1.device)");
+        }
+        sql + " ORDER BY c1.device"
+    }
+
+    pub fn search(&mut self, q: &Query, answer: &mut [u16]) -> usize {
+        let shape = (q.required.len(), q.forbidden.len(), q.levels.is_some());
+        if !self.statements.contains_key(&shape) {
+            let statement = self.prepare(&Database::sql(shape));
+            self.statements.insert(shape, statement);
+        }
+        let statement = self.statements[&shape];
+        let levels = q.levels.map(|(low, high)| [low, high]);
+        let values = q.required.iter().chain(levels.iter().flatten()).chain(&q.forbidden);
+        let mut count = 0;
+        unsafe {
+            for (i, &value) in values.enumerate() {
+                sqlite3_bind_int64(statement, i as c_int + 1, value as i64);
+            }
+            while sqlite3_step(statement) == ROW {
+                answer[count] = sqlite3_column_int(statement, 0) as u16;
+                count += 1;
+            }
+            sqlite3_reset(statement);
+        }
+        count
+    }
+}
+
+impl Drop for Database {
+    fn drop(&mut self) {
+        unsafe {
+            for &statement in self.statements.values() {
+                sqlite3_finalize(statement);
+            }
+            sqlite3_close(self.db);
+        }
+    }
+}

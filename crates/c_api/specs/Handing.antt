@@ -1,0 +1,55 @@
+-- How a caller in another language hands a query over, and how answers are handed back to it as numbers.
+use Prim.Native.Nat.{ℕ, zero, suc, _-_}
+use mathlib.Core.List.{List, [], _∷_, _++_}
+use lib.ListN.{length, take, replicate}
+use Rattle.query.specs.declared.Levels.{Levels}
+use Rattle.query.specs.declared.Query.{Query}
+use Rattle.query.specs.declared.Answer.{Answer}
+use Rattle.query_text.specs.declared.QueryRead.{QueryRead}
+use Rattle.plant_text.specs.declared.Outcome.{Outcome}
+
+-- the first eight terms of a list, and zeros in the places left; a ninth is counted but not kept, since nine terms are refused
+unfoldable pub places : List ℕ → List ℕ
+places terms = take 8 terms ++ replicate (8 - length terms) 0
+
+-- 0: any level code; another number: a range
+abbrev pub levels-of : ℕ → ℕ → ℕ → Levels
+levels-of zero low high = Levels.Any
+levels-of (suc n) low high = Levels.Range low high
+
+-- the query of two lists of terms, level codes, a start and a budget
+abbrev pub query-of : List ℕ → List ℕ → Levels → ℕ → ℕ → Query
+query-of required forbidden levels start budget = record {
+  required = places required;
+  «required_count» = length required;
+  forbidden = places forbidden;
+  «forbidden_count» = length forbidden;
+  levels = levels;
+  start = start;
+  budget = budget;
+}
+
+-- the three numbers beside a refusal
+abbrev pub numbers-of : Answer → List ℕ
+numbers-of a = a .count ∷ a .position ∷ a .moves ∷ []
+
+-- level codes as three numbers: 1 for a range, its low and its high; or zeros
+abbrev pub level-numbers : Levels → List ℕ
+level-numbers Levels.Any = 0 ∷ 0 ∷ 0 ∷ []
+level-numbers (Levels.Range low high) = 1 ∷ low ∷ high ∷ []
+
+-- the numbers of a query that was read: line, required terms, forbidden terms, level codes, start, budget
+abbrev pub query-numbers : QueryRead → List ℕ
+query-numbers r =
+    (r .line ∷ r .query .«required_count» ∷ r .query .«forbidden_count» ∷ [])
+    ++ (level-numbers (r .query .levels) ++ (r .query .start ∷ r .query .budget ∷ []))
+
+-- how a reading of plant text ended: the refusal, or 0
+abbrev pub outcome-refusal : Outcome → ℕ
+outcome-refusal (Outcome.Made devices terms postings) = 0
+outcome-refusal (Outcome.Refused n line) = n
+
+-- and the numbers beside it: line, devices, terms, postings
+abbrev pub outcome-numbers : Outcome → List ℕ
+outcome-numbers (Outcome.Made devices terms postings) = 0 ∷ devices ∷ terms ∷ postings ∷ []
+outcome-numbers (Outcome.Refused n line) = line ∷ 0 ∷ 0 ∷ 0 ∷ []

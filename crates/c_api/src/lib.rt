@@ -1,0 +1,120 @@
+// The operations for programs in C and Rust: numbers and slices only, each with the contract of the operation that it hands on.
+// include/plant_search.h declares them.
+ghost use mathlib.Core.Path.{_≡_};
+ghost use lib.ListN.{length, getD, take};
+ghost use Rattle.plant.specs.Plant.{plant};
+ghost use Rattle.index.specs.Index as indexes;
+ghost use Rattle.index.specs.Index.{index};
+ghost use Rattle.query.specs.Answer.{answer, «answer-list»};
+ghost use Rattle.query.specs.Promises.{Kept};
+ghost use Rattle.query_text.specs.QueryText.{read};
+ghost use Rattle.plant_text.specs.PlantText as texts;
+ghost use Rattle.plant_text.specs.PlantText.{room, «plant-after», «index-after»};
+ghost use Rattle.respond.specs.Respond.{Responds};
+ghost use Rattle.c_api.specs.Handing.{«levels-of», «query-of», «numbers-of», «query-numbers», «outcome-refusal», «outcome-numbers»};
+use handing::outcome_numbers;
+use handing::outcome_refusal;
+use handing::query_numbers;
+use handing::query_of;
+
+mod handing;
+
+// The lowest of refusals 1 to 9 that applies to the tables and the index, or 0.
+#[no_mangle]
+pub extern "C" fn plant_search_check(
+    last: &[u16],
+    root: &[u16],
+    level: &[u8],
+    terms: &[u16],
+    starts: &[u32],
+    postings: &[u32],
+) -> u32
+    ensures { λ r. ⌜ r ≡ indexes.refusal (plant (now (last .entry)) (now (root .entry)) (now (level .entry))) (index (now (terms .entry)) (now (starts .entry)) (now (postings .entry))) ⌝ }
+{
+    index::check(last, root, level, terms, starts, postings)
+}
+
+// Searches for the devices that carry all required terms and no forbidden one. Any level code is wanted where `ranged` is 0, else those of a
+// range. The listing goes to the front of `out`; `numbers` is set to the number of devices listed, the position and the moves.
+#[no_mangle]
+pub extern "C" fn plant_search_search(
+    last: &[u16],
+    root: &[u16],
+    level: &[u8],
+    terms: &[u16],
+    starts: &[u32],
+    postings: &[u32],
+    required: &[u32],
+    forbidden: &[u32],
+    ranged: u32,
+    low: u32,
+    high: u32,
+    start: u32,
+    budget: u32,
+    out: &mut [u16],
+    numbers: &mut [u32; 3],
+) -> u32
+    ensures refusal { λ r. ⌜ r ≡ answer (plant (now (last .entry)) (now (root .entry)) (now (level .entry))) (index (now (terms .entry)) (now (starts .entry)) (now (postings .entry))) («query-of» (now (required .entry)) (now (forbidden .entry)) («levels-of» ranged low high) start budget) (length (now (out .entry))) .refusal ⌝ }
+    ensures numbers { λ _. ⌜ now (numbers .exit) ≡ «numbers-of» (answer (plant (now (last .entry)) (now (root .entry)) (now (level .entry))) (index (now (terms .entry)) (now (starts .entry)) (now (postings .entry))) («query-of» (now (required .entry)) (now (forbidden .entry)) («levels-of» ranged low high) start budget) (length (now (out .entry)))) ⌝ }
+    ensures listing { λ _. ⌜ now (out .exit) ≡ «answer-list» (plant (now (last .entry)) (now (root .entry)) (now (level .entry))) (index (now (terms .entry)) (now (starts .entry)) (now (postings .entry))) («query-of» (now (required .entry)) (now (forbidden .entry)) («levels-of» ranged low high) start budget) (now (out .entry)) ⌝ }
+    ensures kept { λ r. ⌜ (r ≡ 0 → Kept (plant (now (last .entry)) (now (root .entry)) (now (level .entry))) (index (now (terms .entry)) (now (starts .entry)) (now (postings .entry))) («query-of» (now (required .entry)) (now (forbidden .entry)) («levels-of» ranged low high) start budget) (take (getD (now (numbers .exit)) 0 0) (now (out .exit))) (getD (now (numbers .exit)) 1 0) (getD (now (numbers .exit)) 2 0)) ⌝ }
+{
+    let query = query_of(required, forbidden, ranged, low, high, start, budget);
+    let told = query::search(last, root, level, terms, starts, postings, query, out);
+    *numbers = [told.count, told.position, told.moves];
+    told.refusal
+}
+
+// Reads plant text into the tables: the refusal, and in `numbers` its line and the numbers of devices, terms and postings. What is beyond those
+// is 0, and so is all where the text is refused.
+#[no_mangle]
+pub extern "C" fn plant_search_read_plant(
+    text: &[u8],
+    last: &mut [u16],
+    root: &mut [u16],
+    level: &mut [u8],
+    terms: &mut [u16],
+    starts: &mut [u32],
+    postings: &mut [u32],
+    numbers: &mut [usize; 4],
+) -> u32
+    ensures refusal { λ r. ⌜ r ≡ «outcome-refusal» (texts.answer (texts.read (room (plant (now (last .entry)) (now (root .entry)) (now (level .entry))) (index (now (terms .entry)) (now (starts .entry)) (now (postings .entry)))) (now (text .entry)))) ⌝ }
+    ensures numbers { λ _. ⌜ now (numbers .exit) ≡ «outcome-numbers» (texts.answer (texts.read (room (plant (now (last .entry)) (now (root .entry)) (now (level .entry))) (index (now (terms .entry)) (now (starts .entry)) (now (postings .entry)))) (now (text .entry)))) ⌝ }
+    ensures plant { λ _. ⌜ plant (now (last .exit)) (now (root .exit)) (now (level .exit)) ≡ «plant-after» (now (text .entry)) (plant (now (last .entry)) (now (root .entry)) (now (level .entry))) (index (now (terms .entry)) (now (starts .entry)) (now (postings .entry))) ⌝ }
+    ensures index { λ _. ⌜ index (now (terms .exit)) (now (starts .exit)) (now (postings .exit)) ≡ «index-after» (now (text .entry)) (plant (now (last .entry)) (now (root .entry)) (now (level .entry))) (index (now (terms .entry)) (now (starts .entry)) (now (postings .entry))) ⌝ }
+{
+    let outcome = plant_text::read(text, last, root, level, terms, starts, postings);
+    *numbers = outcome_numbers(outcome);
+    outcome_refusal(outcome)
+}
+
+// Reads query text: the refusal, the terms in eight places each, and the other numbers of the query. A refusal gives the empty query.
+#[no_mangle]
+pub extern "C" fn plant_search_read_query(
+    text: &[u8],
+    required: &mut [u32; 8],
+    forbidden: &mut [u32; 8],
+    numbers: &mut [usize; 8],
+) -> u32
+    ensures refusal { λ r. ⌜ r ≡ read (now (text .entry)) .refusal ⌝ }
+    ensures required { λ _. ⌜ now (required .exit) ≡ read (now (text .entry)) .query .required ⌝ }
+    ensures forbidden { λ _. ⌜ now (forbidden .exit) ≡ read (now (text .entry)) .query .forbidden ⌝ }
+    ensures numbers { λ _. ⌜ now (numbers .exit) ≡ «query-numbers» (read (now (text .entry))) ⌝ }
+{
+    let found = query_text::read(text);
+    let query = found.query;
+    let first = query.required;
+    let second = query.forbidden;
+    *required = first;
+    *forbidden = second;
+    *numbers = query_numbers(found);
+    found.refusal
+}
+
+// What the program prints for a plant text and a query text, at the front of `out`, whose other bytes are kept. Returns how many bytes.
+#[no_mangle]
+pub extern "C" fn plant_search_respond(plant: &[u8], query: &[u8], out: &mut [u8; 16384]) -> usize
+    ensures { λ r. ⌜ Responds (now (plant .entry)) (now (query .entry)) (now (out .entry)) (now (out .exit)) r ⌝ }
+{
+    respond::respond(plant, query, out)
+}

@@ -1,0 +1,93 @@
+/* The plant search for C and Rust: the operations of libc_api.a, which `rt staticlib c_api` makes.
+ *
+ * A list is passed as a pointer and its number of entries; an array of fixed length as a pointer. A pointer is not null, and
+ * aligned to its type, also where the list is empty. Lists that a call writes to overlap no other list of that call.
+ * Nothing is allocated or kept, so calls on different lists may run at the same time. Every call ends, whatever the lists hold.
+ *
+ * Devices are 1 to N, depth first; device d stands at index d - 1. docs/REFUSALS.md explains each refusal number; 0 is no
+ * refusal.
+ */
+#ifndef PLANT_SEARCH_H
+#define PLANT_SEARCH_H
+
+#include <stddef.h>
+#include <stdint.h>
+
+#ifdef __cplusplus
+extern "C" {
+#endif
+
+/* Checks device tables and index: the lowest of refusals 1 to 9 that applies, or 0.
+ *
+ * last: the last device of each device's branch. root: the root of its tree. level: its level code, 255 for none.
+ * terms: the term numbers, rising. starts: where the list of each begins in postings. A posting is 2 times its device, plus 1
+ * if it carries the term to the whole branch. */
+uint32_t plant_search_check(
+    const uint16_t *last, size_t last_length,
+    const uint16_t *root, size_t root_length,
+    const uint8_t *level, size_t level_length,
+    const uint16_t *terms, size_t terms_length,
+    const uint32_t *starts, size_t starts_length,
+    const uint32_t *postings, size_t postings_length);
+
+/* Searches: the lowest of refusals 1 to 14 that applies, or 0. The tables are checked in each call.
+ *
+ * required, forbidden: the terms that a device must carry, and those that it must not; more than 8 of either is refusal 10.
+ * ranged: 0 for any level code, and low and high are not looked at; else only codes low to high.
+ * start: the device to begin at. budget: the most moves that the cursors may make.
+ * answer: room for N devices or more. The matching devices are written to its front; other entries keep what they hold, and
+ * after a refusal all do.
+ * numbers: the number of devices listed, the position, the moves made. The listing is complete where the position is N + 1;
+ * else going on from it as the start lists the rest. After a refusal all three are 0. */
+uint32_t plant_search_search(
+    const uint16_t *last, size_t last_length,
+    const uint16_t *root, size_t root_length,
+    const uint8_t *level, size_t level_length,
+    const uint16_t *terms, size_t terms_length,
+    const uint32_t *starts, size_t starts_length,
+    const uint32_t *postings, size_t postings_length,
+    const uint32_t *required, size_t required_length,
+    const uint32_t *forbidden, size_t forbidden_length,
+    uint32_t ranged, uint32_t low, uint32_t high,
+    uint32_t start, uint32_t budget,
+    uint16_t *answer, size_t answer_length,
+    uint32_t numbers[3]);
+
+/* Reads plant text into six tables: the refusal, 20 to 29, or 0.
+ *
+ * numbers: the line of the refusal or 0, then the numbers of devices, terms and postings.
+ * Every entry beyond those is set to 0. After a refusal every entry of every table is 0, and so are the three numbers. */
+uint32_t plant_search_read_plant(
+    const uint8_t *text, size_t text_length,
+    uint16_t *last, size_t last_length,
+    uint16_t *root, size_t root_length,
+    uint8_t *level, size_t level_length,
+    uint16_t *terms, size_t terms_length,
+    uint32_t *starts, size_t starts_length,
+    uint32_t *postings, size_t postings_length,
+    size_t numbers[4]);
+
+/* Reads ask text: the refusal, 30 to 35, or 0.
+ *
+ * required, forbidden: the terms, then zeros.
+ * numbers: the line of the refusal or 0; how many required terms and how many forbidden; 1 if there is a level range, else 0;
+ * low and high of the range, or zeros; start; budget. After a refusal the query is empty: no terms, no range, start 1, the
+ * largest budget. */
+uint32_t plant_search_read_query(
+    const uint8_t *text, size_t text_length,
+    uint32_t required[8],
+    uint32_t forbidden[8],
+    size_t numbers[8]);
+
+/* Answers ask text over plant text, as the program prints it, with room for 1,024 devices, 256 terms and 4,096 postings.
+ * The number of bytes written to the front of out. */
+size_t plant_search_respond(
+    const uint8_t *plant, size_t plant_length,
+    const uint8_t *query, size_t query_length,
+    uint8_t out[16384]);
+
+#ifdef __cplusplus
+}
+#endif
+
+#endif

@@ -1,0 +1,169 @@
+//! A case, its two outcomes, and whether they differ.
+use crate::ffi::ReadQuery;
+use crate::paper::{self, Answer, Query, Refused, Tables};
+use crate::{slow, Subject};
+
+#[derive(Clone, Debug)]
+pub enum Case {
+    Check(Tables),
+    /// Tables, query, and the answer list as lent.
+    Search(Tables, Query, Vec<u16>),
+    /// A text, and the lengths of the six tables lent.
+    Plant(Vec<u8>, [usize; 6]),
+    Query(Vec<u8>),
+    Respond(Vec<u8>, Vec<u8>),
+}
+
+/// Everything that comes back: numbers and what was lent.
+#[derive(Debug, PartialEq)]
+pub enum Outcome {
+    Number(u32),
+    Answer(Answer, Vec<u16>),
+    /// The refusal, then line, devices, terms and postings; the tables whole.
+    Plant(u32, [usize; 4], Tables),
+    Query(ReadQuery),
+    /// How many bytes are the response, and the lent array whole.
+    Bytes(usize, Vec<u8>),
+}
+
+/// What stands in every table before a text is read into it.
+pub fn lent(room: [usize; 6]) -> Tables {
+    Tables {
+        last: vec![0xabcd; room[0]],
+        root: vec![0xabcd; room[1]],
+        level: vec![0xab; room[2]],
+        terms: vec![0xabcd; room[3]],
+        starts: vec![0xabcd_abcd; room[4]],
+        postings: vec![0xabcd_abcd; room[5]],
+    }
+}
+
+impl Case {
+    /// What document 01 says.
+    pub fn expected(&self) -> Outcome {
+        match self {
+            Case::Check(t) => Outcome::Number(t.check()),
+            Case::Search(t, q, answer) => {
+                let mut answer = answer.clone();
+                Outcome::Answer(t.search(q, &mut answer), answer)
+            }
+            Case::Plant(text, room) => plant_outcome(paper::read_plant(text, *room), *room),
+            Case::Query(text) => query_outcome(paper::read_query(text)),
+            Case::Respond(plant, query) => {
+                let mut out = paper::respond(plant, query);
+                let length = out.len();
+                out.resize(16384, 0xee);
+                Outcome::Bytes(length, out)
+            }
+        }
+    }
+
+    /// The refusal numbers that an outcome shows.
+    pub fn refusal(outcome: &Outcome) -> u32 {
+        match outcome {
+            Outcome::Number(n) | Outcome::Plant(n, ..) => *n,
+            Outcome::Answer(answer, _) => answer.refusal,
+            Outcome::Query(read) => read.refusal,
+            Outcome::Bytes(length, bytes) => {
+                let text = String::from_utf8_lossy(&bytes[..*length]);
+                let number = text.strip_prefix("(refused ").and_then(|rest| rest.split([' ', ')']).nth(1)?.parse().ok());
+                number.unwrap_or(0)
+            }
+        }
+    }
+
+    /// How the subject's outcome differs from the paper's, if it does.
+    pub fn difference(&self, expected: &Outcome, subject: &dyn Subject) -> Option<String> {
+        let got = subject.outcome(self);
+        if *expected != got {
+            return Some(format!("document 01: {}\nthe call:    {}", short(expected), short(&got)));
+        }
+        self.against_slow(expected).map(|what| format!("against the slow evaluator: {what}"))
+    }
+
+    /// Small cases are held to the slow evaluator too.
+    fn against_slow(&self, outcome: &Outcome) -> Option<String> {
+        match (self, outcome) {
+            (Case::Check(t), Outcome::Number(n)) if t.size() <= 40 && t.postings.len() <= 100 => {
+                let slow = slow::check(t);
+                (slow != *n).then(|| format!("check gives {slow}"))
+            }
+            (Case::Search(t, q, lent), Outcome::Answer(got, answer)) if got.refusal == 0 && t.size() <= 130 => {
+                let mut other = lent.clone();
+                let unlimited = t.search(&Query { budget: u32::MAX, ..q.clone() }, &mut other);
+                let (listing, kept) = answer.split_at(got.count as usize);
+                if kept != &lent[listing.len()..] {
+                    return Some("entries beyond the listing changed".into());
+                }
+                slow::broken(t, q, *got, listing, unlimited).map(str::to_string)
+            }
+            _ => None,
+        }
+    }
+}
+
+fn plant_outcome(read: Result<Tables, Refused>, room: [usize; 6]) -> Outcome {
+    let (refusal, numbers, mut t) = match read {
+        Ok(t) => (0, [0, t.last.len(), t.terms.len(), t.postings.len()], t),
+        Err((number, line)) => (number, [line as usize, 0, 0, 0], Tables::default()),
+    };
+    t.last.resize(room[0], 0);
+    t.root.resize(room[1], 0);
+    t.level.resize(room[2], 0);
+    t.terms.resize(room[3], 0);
+    t.starts.resize(room[4], 0);
+    t.postings.resize(room[5], 0);
+    Outcome::Plant(refusal, numbers, t)
+}
+
+/// A query in the shape in which it is handed out: unused places hold 0, and a refusal comes with an empty query.
+fn query_outcome(read: Result<Query, Refused>) -> Outcome {
+    let (refusal, line, query) = match read {
+        Ok(query) => (0, 0, query),
+        Err((number, line)) => (number, line, Query::empty()),
+    };
+    let places = |terms: &[u32]| std::array::from_fn(|i| terms.get(i).copied().unwrap_or(0));
+    let (ranged, low, high) = query.levels.map_or((0, 0, 0), |(low, high)| (1, low, high));
+    Outcome::Query(ReadQuery {
+        refusal,
+        required: places(&query.required),
+        forbidden: places(&query.forbidden),
+        numbers: [
+            line as usize,
+            query.required.len(),
+            query.forbidden.len(),
+            ranged,
+            low as usize,
+            high as usize,
+            query.start as usize,
+            query.budget as usize,
+        ],
+    })
+}
+
+/// An outcome, cut where it is long; bytes as text.
+pub fn short(outcome: &Outcome) -> String {
+    let mut text = match outcome {
+        Outcome::Bytes(length, bytes) => {
+            format!("{length} bytes: {:?}", String::from_utf8_lossy(&bytes[..*length.min(&bytes.len())]))
+        }
+        other => format!("{other:?}"),
+    };
+    if text.len() > 600 {
+        text = text.chars().take(600).chain(" ..".chars()).collect();
+    }
+    text
+}
+
+impl std::fmt::Display for Case {
+    fn fmt(&self, f: &mut std::fmt::Formatter) -> std::fmt::Result {
+        let text = |bytes: &[u8]| String::from_utf8_lossy(bytes).into_owned();
+        match self {
+            Case::Check(t) => write!(f, "check of {t:?}"),
+            Case::Search(t, q, answer) => write!(f, "search in {t:?}\n{q:?}\nanswer list {answer:?}"),
+            Case::Plant(bytes, room) => write!(f, "plant text {:?}\ntables of {room:?}", text(bytes)),
+            Case::Query(bytes) => write!(f, "query text {:?}", text(bytes)),
+            Case::Respond(plant, query) => write!(f, "respond to {:?}\nand {:?}", text(plant), text(query)),
+        }
+    }
+}

@@ -1,0 +1,561 @@
+//! Random cases: sound plants, tables with damage, queries, texts and texts with damage.
+use crate::case::Case;
+use crate::paper::{device_of, Query, Tables};
+use crate::random::Random;
+
+/// A sound forest of n devices. At most `depth` are open together.
+fn forest(r: &mut Random, n: usize, depth: usize) -> Tables {
+    let mut t = Tables::default();
+    let mut open: Vec<usize> = vec![];
+    // how often a device closes before the next opens: flat plants, deep plants, and all between
+    let close = r.of(&[0, 1, 5, 9, 10, 10]);
+    let level = r.of(&[3, 200, 256]);
+    for index in 0..n {
+        while open.len() >= depth || (!open.is_empty() && r.below(20) < close) {
+            t.last[open.pop().unwrap()] = index as u16;
+        }
+        if r.one_in(40) {
+            for o in open.drain(..) {
+                t.last[o] = index as u16;
+            }
+        }
+        open.push(index);
+        t.last.push(n as u16);
+        t.root.push(open[0] as u16 + 1);
+        t.level.push(if r.one_in(6) { r.of(&[0, 253, 254, 255, 255]) } else { r.below(level) as u8 });
+    }
+    t
+}
+
+/// Terms and postings over a forest: rising, none redundant.
+fn index(r: &mut Random, t: &mut Tables, terms: usize, most: usize) {
+    let step = r.of(&[1, 1, 2, 60_000 / terms.max(1)]).max(1);
+    let mut term = 0;
+    for _ in 0..terms {
+        term += r.between(1, step);
+        t.terms.push(term as u16);
+        t.starts.push(t.postings.len() as u32);
+        let gap = r.of(&[1, 2, 3, 10, 100, t.size().max(1)]);
+        let sharing = r.of(&[1, 2, 2, 5, 1_000]);
+        let mut device = r.between(1, gap);
+        while device <= t.size() && t.postings.len() < most && !r.one_in(200) {
+            let shared = r.one_in(sharing);
+            t.postings.push(2 * device as u32 + shared as u32);
+            let reach = if shared { t.last[device - 1] as usize } else { device };
+            device = reach + r.between(1, gap);
+        }
+        if r.one_in(60) {
+            t.postings.truncate(*t.starts.last().unwrap() as usize);
+        }
+    }
+}
+
+/// Devices, terms and the most postings of a plant.
+fn size(r: &mut Random) -> (usize, usize, usize) {
+    match r.below(4_000) {
+        0 => {
+            let (n, terms) = (r.between(1_025, 65_535), r.below(100));
+            (r.of(&[65_535, n]), r.of(&[terms, 8_192]), r.of(&[100_000, 1_048_576]))
+        }
+        1..400 => (r.between(0, 1_024), r.below(17), 4_096),
+        400..1_200 => (r.between(0, 120), r.below(12), 600),
+        1_200..1_500 => (r.below(3), r.below(3), 8),
+        _ => (r.between(0, 24), r.below(7), 60),
+    }
+}
+
+fn plant(r: &mut Random) -> Tables {
+    let (n, terms, most) = size(r);
+    let depth = r.of(&[1, 3, 32, 70_000]);
+    let mut t = forest(r, n, depth);
+    index(r, &mut t, terms, most);
+    t
+}
+
+fn resize<T: Copy>(r: &mut Random, v: &mut Vec<T>, filler: T) {
+    match r.below(5) {
+        0 => v.clear(),
+        1 => v.truncate(1),
+        2 => drop(v.pop()),
+        3 => v.push(filler),
+        _ => {
+            let value = v.last().copied().unwrap_or(filler);
+            v.push(value)
+        }
+    }
+}
+
+/// One entry, changed to a number near it, near a limit, or any.
+fn alter(r: &mut Random, value: u32, n: usize, most: u32) -> u32 {
+    let near = [value.wrapping_add(1), value.wrapping_sub(1), value ^ 1, value.wrapping_add(2), value.wrapping_sub(2)];
+    let limit = [0, 1, 2, n as u32, n as u32 + 1, 2 * n as u32 + 1, 2 * n as u32 + 2, most, most - 1, 65_535, 65_536];
+    let any = r.next() as u32;
+    let chosen = match r.below(5) {
+        0 | 1 => r.of(&near),
+        2 | 3 => r.of(&limit),
+        _ => any % (2 * n as u32 + 4),
+    };
+    if most == u32::MAX {
+        chosen
+    } else {
+        chosen % (most + 1)
+    }
+}
+
+/// Damage to one place of the tables.
+fn damage(r: &mut Random, t: &mut Tables) {
+    let n = t.size();
+    macro_rules! entry {
+        ($v:expr, $most:expr, $kind:ty) => {{
+            let i = r.below($v.len());
+            if let Some(&old) = $v.get(i) {
+                $v[i] = alter(r, old as u32, n, $most) as $kind;
+            }
+        }};
+    }
+    macro_rules! swap {
+        ($v:expr) => {{
+            let length = $v.len();
+            if length > 1 {
+                let i = r.below(length - 1);
+                $v.swap(i, i + 1);
+            }
+        }};
+    }
+    match r.below(24) {
+        0 => resize(r, &mut t.last, n as u16),
+        1 => resize(r, &mut t.root, 1),
+        2 => resize(r, &mut t.level, 9),
+        3 => resize(r, &mut t.terms, 65_535),
+        4 => resize(r, &mut t.starts, 0),
+        5 | 6 => resize(r, &mut t.postings, 2),
+        7..=9 => entry!(t.last, 65_535, u16),
+        10 | 11 => entry!(t.root, 65_535, u16),
+        12 => swap!(t.last),
+        13 | 14 => entry!(t.terms, 65_535, u16),
+        15 => swap!(t.terms),
+        16 | 17 => entry!(t.starts, u32::MAX, u32),
+        18..=20 => entry!(t.postings, u32::MAX, u32),
+        21 => swap!(t.postings),
+        _ => redundant(r, t),
+    }
+}
+
+/// Puts a posting into a list, inside a shared posting's branch where one is found.
+fn redundant(r: &mut Random, t: &mut Tables) {
+    if t.postings.is_empty() {
+        return;
+    }
+    let i = r.below(t.postings.len());
+    let device = device_of(t.postings[i]);
+    let Some(&last) = t.last.get(device.wrapping_sub(1)) else { return };
+    let inside = r.between(device, (last as usize).max(device));
+    t.postings[i] |= 1;
+    t.postings.insert(i + 1, 2 * inside as u32 + r.below(2) as u32);
+    for s in t.starts.iter_mut().filter(|s| **s as usize > i) {
+        *s = s.saturating_add(1);
+    }
+}
+
+/// A table past a limit: rare, since they are large.
+fn past_limit(r: &mut Random) -> Tables {
+    let mut t = Tables::default();
+    match r.below(4) {
+        0 => {
+            t.last = vec![65_535; 65_536];
+            t.root = vec![1; 65_536];
+            t.level = vec![0; 65_536];
+        }
+        1 => {
+            let count = r.of(&[8_192, 8_193]);
+            t.terms = (1..=count).collect();
+            t.starts = vec![0; count as usize];
+        }
+        2 => {
+            let count = r.of(&[1_048_576, 1_048_577]);
+            (t.last, t.root, t.level) = (vec![1], vec![1], vec![0]);
+            (t.terms, t.starts, t.postings) = (vec![1], vec![0], vec![2; count]);
+        }
+        _ => {
+            t = forest(r, 65_535, 70_000);
+            t.terms = (1..=16).collect();
+            t.starts = (0..16).map(|k| k * 65_535).collect();
+            t.postings = (0..16 * 65_535).map(|i| 2 * (i % 65_535 + 1)).collect();
+        }
+    }
+    t
+}
+
+fn tables(r: &mut Random) -> Tables {
+    if r.one_in(6_000) {
+        return past_limit(r);
+    }
+    let mut t = plant(r);
+    if r.one_in(2) && t.size() < 2_000 {
+        for _ in 0..r.of(&[1, 1, 1, 2, 3]) {
+            damage(r, &mut t);
+        }
+    }
+    t
+}
+
+fn terms(r: &mut Random, t: &Tables, most: usize) -> Vec<u32> {
+    let count = if r.one_in(25) { r.of(&[7, 8, 8, 9, 10, 40]) } else { r.below(most) };
+    let wrong = r.one_in(20);
+    let one = |r: &mut Random| match r.below(20) {
+        0 if wrong => r.of(&[0, 65_536, u32::MAX]),
+        1 => r.of(&[1, 65_535, 30_000]),
+        _ => t.terms.get(r.below(t.terms.len())).map_or(1, |&term| term as u32),
+    };
+    (0..count).map(|_| one(r)).collect()
+}
+
+fn query(r: &mut Random, t: &Tables) -> Query {
+    let n = t.size() as u32;
+    let mut required = terms(r, t, 4);
+    let forbidden = if r.one_in(2) { vec![] } else { terms(r, t, 3) };
+    if r.one_in(15) && required.len() < 8 {
+        required.extend(forbidden.first());
+    }
+    let levels = match r.below(12) {
+        0 => Some((r.below(260) as u32, r.below(260) as u32)),
+        1 => Some(r.of(&[(0, 254), (0, 255), (254, 254), (255, 255), (1, 0), (0, u32::MAX), (u32::MAX, 0)])),
+        2 | 3 => {
+            let low = r.below(255);
+            Some((low as u32, r.between(low, 254) as u32))
+        }
+        _ => None,
+    };
+    let start = match r.below(12) {
+        0 => r.of(&[0, n + 2, u32::MAX, n + 1]),
+        1..=3 => r.below(n as usize + 1) as u32 + 1,
+        _ => 1,
+    };
+    let named: usize = required.iter().chain(&forbidden).map(|&q| count_of(t, q)).sum();
+    let budget = match r.below(6) {
+        0 => r.below(3) as u32,
+        1 | 2 => r.below(named + 2) as u32,
+        3 => named as u32,
+        _ => u32::MAX,
+    };
+    Query { required, forbidden, levels, start, budget }
+}
+
+/// The length of a term's list, for tables that may be damaged.
+fn count_of(t: &Tables, term: u32) -> usize {
+    let Some(k) = t.terms.iter().position(|&x| x as u32 == term) else { return 0 };
+    let start = t.starts.get(k).copied().unwrap_or(0);
+    let end = t.starts.get(k + 1).copied().unwrap_or(t.postings.len() as u32);
+    (end.saturating_sub(start) as usize).min(t.postings.len())
+}
+
+fn room_for(r: &mut Random, n: usize) -> usize {
+    match r.below(15) {
+        0 => n.saturating_sub(1),
+        1 => r.below(n + 1),
+        2 | 3 => n + r.below(5),
+        _ => n,
+    }
+}
+
+pub fn plant_text(t: &Tables) -> Vec<u8> {
+    let mut out = String::from("(plant\n");
+    let mut open: Vec<u16> = vec![];
+    for (i, &last) in t.last.iter().enumerate() {
+        while open.last().is_some_and(|&e| (e as usize) < i + 1) {
+            open.pop();
+            out += ")\n";
+        }
+        out += &format!("(dev {}\n", t.level[i]);
+        open.push(last);
+    }
+    out += &")\n".repeat(open.len());
+    for (k, term) in t.terms.iter().enumerate() {
+        out += &format!("(mark {term}\n");
+        let end = t.starts.get(k + 1).map_or(t.postings.len(), |&s| s as usize);
+        for &q in &t.postings[t.starts[k] as usize..end] {
+            out += &format!("({} {})\n", if q % 2 == 1 { "all" } else { "own" }, q / 2);
+        }
+        out += ")\n";
+    }
+    (out + ")\n").into_bytes()
+}
+
+pub fn query_text(q: &Query) -> Vec<u8> {
+    let mut out = String::from("(ask\n");
+    for term in &q.required {
+        out += &format!("(need {term})\n");
+    }
+    for term in &q.forbidden {
+        out += &format!("(not {term})\n");
+    }
+    if let Some((low, high)) = q.levels {
+        out += &format!("(level {low} {high})\n");
+    }
+    if q.start != 1 {
+        out += &format!("(from {})\n", q.start);
+    }
+    if q.budget != u32::MAX {
+        out += &format!("(moves {})\n", q.budget);
+    }
+    (out + ")\n").into_bytes()
+}
+
+const LINES: [&[u8]; 32] = [
+    b")",
+    b"",
+    b"(plant",
+    b"(ask",
+    b"(dev 0",
+    b"(dev 255",
+    b"(dev 256",
+    b"(dev 0)",
+    b"(dev",
+    b"(dev  1",
+    b"(dev 01",
+    b"(dev 99999999999999999999999",
+    b"(mark 65535",
+    b"(mark 65536",
+    b"(mark 0",
+    b"(mark 1)",
+    b"(all 1)",
+    b"(own 2)",
+    b"(all 0)",
+    b"(own 99999999999999999999)",
+    b"(own 1",
+    b"(need 7)",
+    b"(need 4294967296)",
+    b"(not 9)",
+    b"(not 0)",
+    b"(level 1 2)",
+    b"(level 1)",
+    b"(level 1  2)",
+    b"(from 1)",
+    b"(moves 4294967295)",
+    b"(moves 42949672950)",
+    b"(moves 00)",
+];
+
+const BYTES: &[u8] = b"() \n\r\t0123456789adnplm\0\xff";
+
+/// Damage to a text: a byte or a line changed, put in, left out, or the text cut.
+fn spoil(r: &mut Random, text: &mut Vec<u8>) {
+    let at = r.below(text.len() + 1);
+    let lines = |text: &[u8]| -> Vec<Vec<u8>> { text.split_inclusive(|&b| b == b'\n').map(<[u8]>::to_vec).collect() };
+    match r.below(9) {
+        0 => text.truncate(at),
+        1 => text.insert(at, r.of(BYTES)),
+        2 if at < text.len() => text[at] = r.of(BYTES),
+        3 if at < text.len() => drop(text.remove(at)),
+        4 => text.extend(r.of(&[&b")\n"[..], b"\n", b" ", b"(dev 1\n", b"x"])),
+        kind => {
+            let mut all = lines(text);
+            let i = r.below(all.len());
+            let line = [r.of(&LINES), &b"\n"[..]].concat();
+            match kind {
+                5 => all.insert(i, line),
+                6 if i < all.len() => all[i] = line,
+                7 if i < all.len() => drop(all.remove(i)),
+                _ if i + 1 < all.len() => all.swap(i, i + 1),
+                _ => (),
+            }
+            *text = all.concat();
+        }
+    }
+}
+
+/// A forest that fits a text, now and then one tier too deep.
+fn small_plant(r: &mut Random) -> Tables {
+    let (n, terms, most) = match r.below(300) {
+        0 => (r.between(900, 1_100), r.below(20), 5_000),
+        1 => (r.between(1, 40), r.between(250, 260), 600),
+        2 => (r.between(700, 1_024), r.between(4, 20), 5_000),
+        3..20 => (r.below(200), r.below(9), 300),
+        20..40 => (r.between(33, 60), 1, 20),
+        _ => (r.below(14), r.below(5), 30),
+    };
+    let depth = r.of(&[2, 31, 32, 32, 33]);
+    let mut t = forest(r, n, depth);
+    index(r, &mut t, terms, most);
+    if r.one_in(30) {
+        redundant(r, &mut t);
+    }
+    t
+}
+
+fn some_plant_text(r: &mut Random, t: &Tables) -> Vec<u8> {
+    let mut text = plant_text(t);
+    if r.one_in(2) {
+        spoil(r, &mut text);
+    }
+    if r.one_in(8) {
+        spoil(r, &mut text);
+    }
+    if r.one_in(700) {
+        // at the limit and past it: more devices inside, or bytes after
+        let filler = r.of(&[&b"(dev 1\n)\n"[..], b" ", b")\n"]);
+        let length = r.of(&[65_535, 65_536, 65_537, 70_000]);
+        let mut long = b"(plant\n".to_vec();
+        while long.len() < length {
+            long.extend(filler);
+        }
+        long.truncate(length);
+        return long;
+    }
+    text
+}
+
+fn some_query_text(r: &mut Random, t: &Tables) -> Vec<u8> {
+    let mut text = query_text(&query(r, t));
+    if r.one_in(2) {
+        spoil(r, &mut text);
+    }
+    if r.one_in(8) {
+        spoil(r, &mut text);
+    }
+    if r.one_in(200) {
+        let length = r.of(&[4_095, 4_096, 4_097, 5_000]);
+        text.resize(length, r.of(b" \n)"));
+    }
+    text
+}
+
+/// The length of each table that a plant text is read into.
+fn rooms(r: &mut Random, t: &Tables) -> [usize; 6] {
+    let used = [t.last.len(), t.last.len(), t.last.len(), t.terms.len(), t.terms.len(), t.postings.len()];
+    if r.one_in(4) {
+        used.map(|n| if r.one_in(5) { r.below(n + 1) } else { n })
+    } else {
+        used.map(|n| n + r.below(4))
+    }
+}
+
+pub fn case(r: &mut Random) -> Case {
+    match r.below(20) {
+        0..4 => Case::Check(tables(r)),
+        4..10 => {
+            let t = tables(r);
+            let q = query(r, &t);
+            let room = room_for(r, t.size());
+            let filler = r.next() as u16;
+            Case::Search(t, q, vec![filler; room])
+        }
+        10..14 => {
+            let t = small_plant(r);
+            let room = rooms(r, &t);
+            Case::Plant(some_plant_text(r, &t), room)
+        }
+        14..17 => {
+            let t = small_plant(r);
+            Case::Query(some_query_text(r, &t))
+        }
+        _ => {
+            let t = small_plant(r);
+            let plant = if r.one_in(2) { plant_text(&t) } else { some_plant_text(r, &t) };
+            Case::Respond(plant, some_query_text(r, &t))
+        }
+    }
+}
+
+/// Plant P of document 01.
+pub const P: &[u8] = b"(plant\n(dev 120\n(dev 118\n(dev 255\n)\n)\n(dev 121\n(dev 90\n)\n(dev 119\n)\n)\n)\n\
+(mark 7\n(all 2)\n(own 5)\n)\n(mark 9\n(all 4)\n)\n)\n";
+
+/// Cases without chance: each way to damage P in one place, P's text and an ask cut and changed at every byte, every small
+/// query over P, tables of lengths 0 and 1.
+pub fn systematic() -> Vec<Case> {
+    let p = crate::paper::read_plant(P, [9; 6]).unwrap();
+    let ask = b"(ask\n(need 7)\n(need 8)\n(not 9)\n(level 100 140)\n(from 1)\n(moves 50)\n)\n";
+    let mut cases = vec![];
+    for cut in 0..=P.len() {
+        cases.push(Case::Plant(P[..cut].to_vec(), [9; 6]));
+        cases.push(Case::Respond(P[..cut].to_vec(), ask.to_vec()));
+    }
+    for cut in 0..=ask.len() {
+        cases.push(Case::Query(ask[..cut].to_vec()));
+    }
+    for &byte in BYTES {
+        for at in 0..P.len() {
+            let mut text = P.to_vec();
+            text[at] = byte;
+            cases.push(Case::Plant(text, [9; 6]));
+        }
+        for at in 0..ask.len() {
+            let mut text = ask.to_vec();
+            text[at] = byte;
+            cases.push(Case::Query(text));
+        }
+    }
+    let values = (0..16).chain([65_534, 65_535, 65_536, u32::MAX - 1, u32::MAX]);
+    for value in values {
+        macro_rules! each {
+            ($field:ident, $kind:ty) => {
+                for i in 0..p.$field.len() {
+                    let mut t = p.clone();
+                    t.$field[i] = value as $kind;
+                    cases.push(Case::Check(t.clone()));
+                    cases.push(Case::Search(t, Query::empty(), vec![5; 6]));
+                }
+            };
+        }
+        each!(last, u16);
+        each!(root, u16);
+        each!(level, u8);
+        each!(terms, u16);
+        each!(starts, u32);
+        each!(postings, u32);
+    }
+    for room in 0..8 {
+        for table in 0..6 {
+            let mut rooms = [9; 6];
+            rooms[table] = room;
+            cases.push(Case::Plant(P.to_vec(), rooms));
+        }
+        cases.push(Case::Search(p.clone(), Query::empty(), vec![5; room]));
+    }
+    small_queries(&p, &mut cases);
+    short_tables(&mut cases);
+    cases
+}
+
+/// Every query of up to two required and up to two forbidden terms over P, with every start and small budgets.
+fn small_queries(p: &Tables, cases: &mut Vec<Case>) {
+    let mut sides: Vec<Vec<u32>> = vec![vec![]];
+    for a in [7, 8, 9] {
+        sides.push(vec![a]);
+        sides.extend([7, 8, 9].map(|b| vec![a, b]));
+    }
+    for required in &sides {
+        for forbidden in &sides {
+            for start in 0..=8 {
+                for budget in (0..6).chain([u32::MAX]) {
+                    let levels = if budget == 5 { Some((100, 140)) } else { None };
+                    let q = Query { required: required.clone(), forbidden: forbidden.clone(), levels, start, budget };
+                    cases.push(Case::Search(p.clone(), q, vec![5; 6]));
+                }
+            }
+        }
+    }
+}
+
+/// Every choice of lengths 0 and 1 for the six tables, with small entries.
+fn short_tables(cases: &mut Vec<Case>) {
+    for lengths in 0..64_usize {
+        for value in 0..4 {
+            let length = |table: usize| lengths >> table & 1;
+            let t = Tables {
+                last: vec![1; length(0)],
+                root: vec![1; length(1)],
+                level: vec![3; length(2)],
+                terms: vec![value as u16; length(3)],
+                starts: vec![value / 2; length(4)],
+                postings: vec![value; length(5)],
+            };
+            cases.push(Case::Check(t.clone()));
+            for start in 0..3 {
+                let q = Query { required: vec![value], start, ..Query::empty() };
+                cases.push(Case::Search(t.clone(), q, vec![5; length(0)]));
+            }
+        }
+    }
+}

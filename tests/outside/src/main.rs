@@ -1,0 +1,82 @@
+//! Holds the proved functions, called from outside, to document 01 in plain Rust, over many cases.
+//!
+//! `outside [CASES] [SEED]`; `outside wrong K [CASES]` puts a known mistake in the place of the archive, to see that it is found.
+mod case;
+mod ffi;
+mod generate;
+mod paper;
+mod random;
+#[cfg(test)]
+mod rows;
+mod shrink;
+mod slow;
+mod subjects;
+
+use case::{Case, Outcome};
+use random::Random;
+use std::time::Instant;
+
+/// What is held to the paper.
+pub trait Subject {
+    fn outcome(&self, case: &Case) -> Outcome;
+}
+
+struct Tally {
+    cases: usize,
+    differ: usize,
+    refusals: [usize; 36],
+}
+
+impl Tally {
+    fn run(&mut self, case: Case, subject: &dyn Subject) {
+        self.cases += 1;
+        let expected = case.expected();
+        self.refusals[Case::refusal(&expected) as usize] += 1;
+        if case.difference(&expected, subject).is_none() {
+            return;
+        }
+        self.differ += 1;
+        if self.differ == 1 {
+            let smallest = shrink::shrink(case, subject);
+            let what = smallest.difference(&smallest.expected(), subject).unwrap();
+            println!("a difference, in the smallest case found:\n{smallest}\n{what}\n");
+        }
+    }
+
+    /// Every row of document 01's table is reached, but 26: no text has a closing bracket with nothing open, since one on the
+    /// first line is 21 and one after the closed plant is 25.
+    fn report(&self, seconds: f64) -> bool {
+        let mut reached = true;
+        for (number, count) in self.refusals.iter().enumerate() {
+            let row = matches!(number, 1..=14 | 20..=25 | 27..=35);
+            reached &= !row || *count > 0;
+            if row || number == 0 || *count > 0 {
+                println!("{} {number:2}: {count}", if number == 0 { "accepted" } else { " refusal" });
+            }
+        }
+        println!("{} cases, {} differ, {seconds:.1} seconds", self.cases, self.differ);
+        if !reached {
+            println!("a refusal was not reached");
+        }
+        reached && self.differ == 0
+    }
+}
+
+fn main() {
+    let words: Vec<String> = std::env::args().skip(1).collect();
+    let number = |i: usize, otherwise: u64| words.get(i).and_then(|w| w.parse().ok()).unwrap_or(otherwise);
+    let wrong = words.first().is_some_and(|w| w == "wrong");
+    let subject: &dyn Subject = if wrong { &subjects::Wrong(number(1, 1)) } else { &subjects::Archive };
+    let cases = if wrong { number(2, 20_000) } else { number(0, 1_000_000) };
+    let mut random = Random(if wrong { 1 } else { number(1, 20_260_101) });
+    let mut tally = Tally { cases: 0, differ: 0, refusals: [0; 36] };
+    let began = Instant::now();
+    for case in generate::systematic() {
+        tally.run(case, subject);
+    }
+    while (tally.cases as u64) < cases {
+        tally.run(generate::case(&mut random), subject);
+    }
+    let good = tally.report(began.elapsed().as_secs_f64());
+    std::process::exit(if good { 0 } else { 1 });
+}

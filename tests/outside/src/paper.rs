@@ -1,0 +1,494 @@
+//! Document 01 in plain Rust, written from its text: tables and their checks, the cursor steps, both texts, the response.
+//! Nothing here is shared with the proved crates.
+
+#[derive(Clone, Debug, Default, PartialEq)]
+pub struct Tables {
+    pub last: Vec<u16>,
+    pub root: Vec<u16>,
+    pub level: Vec<u8>,
+    pub terms: Vec<u16>,
+    pub starts: Vec<u32>,
+    pub postings: Vec<u32>,
+}
+
+#[derive(Clone, Debug, PartialEq)]
+pub struct Query {
+    pub required: Vec<u32>,
+    pub forbidden: Vec<u32>,
+    pub levels: Option<(u32, u32)>,
+    pub start: u32,
+    pub budget: u32,
+}
+
+impl Query {
+    pub fn empty() -> Query {
+        Query { required: vec![], forbidden: vec![], levels: None, start: 1, budget: u32::MAX }
+    }
+}
+
+/// What a search gives: the refusal and zeros, or 0, the count, the position and the moves.
+#[derive(Clone, Copy, Debug, Default, PartialEq)]
+pub struct Answer {
+    pub refusal: u32,
+    pub count: u32,
+    pub position: u32,
+    pub moves: u32,
+}
+
+impl Tables {
+    pub fn size(&self) -> usize {
+        self.last.len()
+    }
+
+    fn last_of(&self, device: usize) -> usize {
+        self.last[device - 1] as usize
+    }
+
+    /// The last device that a posting carries its term to.
+    fn reach(&self, posting: u32) -> usize {
+        let device = device_of(posting);
+        if posting % 2 == 1 {
+            self.last_of(device)
+        } else {
+            device
+        }
+    }
+
+    /// The list of the term at index k: it ends where the next starts, or at the end.
+    fn list(&self, k: usize) -> &[u32] {
+        let end = self.starts.get(k + 1).map_or(self.postings.len(), |&s| s as usize);
+        &self.postings[self.starts[k] as usize..end]
+    }
+
+    pub fn list_of(&self, term: u32) -> &[u32] {
+        match self.terms.iter().position(|&t| t as u32 == term) {
+            Some(k) => self.list(k),
+            None => &[],
+        }
+    }
+
+    /// Refusals 1 to 9, lowest first; 0 for sound tables.
+    pub fn check(&self) -> u32 {
+        let n = self.size();
+        if self.root.len() != n || self.level.len() != n || n > 65_535 {
+            return 1;
+        }
+        if (1..=n).any(|d| self.last_of(d) < d || self.last_of(d) > n) {
+            return 2;
+        }
+        let mut wrong_root = false;
+        let mut open: Vec<usize> = vec![];
+        for d in 1..=n {
+            while open.last().is_some_and(|&e| self.last_of(e) < d) {
+                open.pop();
+            }
+            if open.last().is_some_and(|&e| self.last_of(e) < self.last_of(d)) {
+                return 3;
+            }
+            open.push(d);
+            wrong_root |= self.root[d - 1] as usize != open[0];
+        }
+        if wrong_root {
+            return 4;
+        }
+        self.check_index()
+    }
+
+    fn check_index(&self) -> u32 {
+        if self.terms.len() != self.starts.len() || self.terms.len() > 8_192 || self.postings.len() > 1_048_576 {
+            return 5;
+        }
+        if self.terms.first() == Some(&0) || self.terms.windows(2).any(|w| w[0] >= w[1]) {
+            return 6;
+        }
+        let unordered = self.starts.windows(2).any(|w| w[0] > w[1]);
+        let past = self.starts.iter().any(|&s| s as usize > self.postings.len());
+        let first = self.starts.first().map_or(!self.postings.is_empty(), |&s| s != 0);
+        if unordered || past || first {
+            return 7;
+        }
+        let outside = |&q: &u32| device_of(q) == 0 || device_of(q) > self.size();
+        if self.postings.iter().any(outside) {
+            return 8;
+        }
+        let not_rising = |list: &[u32]| list.windows(2).any(|w| device_of(w[0]) >= device_of(w[1]));
+        if (0..self.terms.len()).any(|k| not_rising(self.list(k))) {
+            return 8;
+        }
+        if (0..self.terms.len()).any(|k| self.any_redundant(self.list(k))) {
+            return 9;
+        }
+        0
+    }
+
+    fn any_redundant(&self, list: &[u32]) -> bool {
+        let mut covered = 0;
+        for &posting in list {
+            if device_of(posting) <= covered {
+                return true;
+            }
+            if posting % 2 == 1 {
+                covered = covered.max(self.reach(posting));
+            }
+        }
+        false
+    }
+
+    /// Refusals 1 to 14.
+    pub fn refusal(&self, query: &Query, room: usize) -> u32 {
+        let of_tables = self.check();
+        let n = self.size() as u64;
+        let mut named = query.required.iter().chain(&query.forbidden);
+        if of_tables != 0 {
+            of_tables
+        } else if query.required.len() > 8 || query.forbidden.len() > 8 {
+            10
+        } else if named.any(|&t| !(1..=65_535).contains(&t)) {
+            11
+        } else if query.levels.is_some_and(|(low, high)| low > high || high > 254) {
+            12
+        } else if query.start == 0 || query.start as u64 > n + 1 {
+            13
+        } else if (room as u64) < n {
+            14
+        } else {
+            0
+        }
+    }
+
+    pub fn search(&self, query: &Query, answer: &mut [u16]) -> Answer {
+        let refusal = self.refusal(query, answer.len());
+        if refusal != 0 {
+            return Answer { refusal, ..Answer::default() };
+        }
+        let mut run = Run::new(self, query);
+        while run.position <= self.size() && run.round(answer) {}
+        Answer { refusal: 0, count: run.count as u32, position: run.position as u32, moves: run.moves }
+    }
+}
+
+pub fn device_of(posting: u32) -> usize {
+    (posting / 2) as usize
+}
+
+struct Cursor<'a> {
+    list: &'a [u32],
+    at: usize,
+}
+
+struct Run<'a> {
+    tables: &'a Tables,
+    query: &'a Query,
+    required: Vec<Cursor<'a>>,
+    forbidden: Vec<Cursor<'a>>,
+    position: usize,
+    moves: u32,
+    count: usize,
+}
+
+impl<'a> Run<'a> {
+    fn new(tables: &'a Tables, query: &'a Query) -> Run<'a> {
+        let cursors =
+            |terms: &[u32]| -> Vec<Cursor<'a>> { terms.iter().map(|&t| Cursor { list: tables.list_of(t), at: 0 }).collect() };
+        Run {
+            tables,
+            query,
+            required: cursors(&query.required),
+            forbidden: cursors(&query.forbidden),
+            position: query.start as usize,
+            moves: 0,
+            count: 0,
+        }
+    }
+
+    /// One round at the position; false: the next move would exceed the budget.
+    fn round(&mut self, answer: &mut [u16]) -> bool {
+        let p = self.position;
+        for cursor in &mut self.required {
+            if !cursor.bring(self.tables, p, &mut self.moves, self.query.budget) {
+                return false;
+            }
+            let c = cursor.device(self.tables);
+            if c > p {
+                self.position = c;
+                return true;
+            }
+        }
+        for cursor in &mut self.forbidden {
+            if !cursor.bring(self.tables, p, &mut self.moves, self.query.budget) {
+                return false;
+            }
+            let c = cursor.device(self.tables);
+            if c <= p {
+                let shared = cursor.list[cursor.at] % 2 == 1;
+                self.position = if shared { self.tables.last_of(c) + 1 } else { p + 1 };
+                return true;
+            }
+        }
+        let code = self.tables.level[p - 1] as u32;
+        if self.query.levels.is_none_or(|(low, high)| low <= code && code <= high && code != 255) {
+            answer[self.count] = p as u16;
+            self.count += 1;
+        }
+        self.position = p + 1;
+        true
+    }
+}
+
+impl Cursor<'_> {
+    fn device(&self, tables: &Tables) -> usize {
+        self.list.get(self.at).map_or(tables.size() + 1, |&q| device_of(q))
+    }
+
+    fn bring(&mut self, tables: &Tables, p: usize, moves: &mut u32, budget: u32) -> bool {
+        loop {
+            let c = self.device(tables);
+            if c > p || tables.reach(self.list[self.at]) >= p {
+                return true;
+            }
+            if *moves == budget {
+                return false;
+            }
+            *moves += 1;
+            let root = tables.root[p - 1] as usize;
+            self.at += 1;
+            let target = if c < root {
+                root
+            } else if tables.last_of(c) < p {
+                tables.last_of(c) + 1
+            } else {
+                0
+            };
+            while self.device(tables) < target && self.at < self.list.len() {
+                self.at += 1;
+            }
+        }
+    }
+}
+
+/// A refused text: the number and the line.
+pub type Refused = (u32, u32);
+
+/// A number as the texts write it: 0, or digits without a leading zero. It stops growing past every limit.
+fn number(word: &[u8]) -> Option<u64> {
+    let well_formed = !word.is_empty() && word.iter().all(u8::is_ascii_digit) && (word == b"0" || word[0] != b'0');
+    well_formed.then(|| word.iter().fold(0, |n: u64, &b| (n * 10 + (b - b'0') as u64).min(1 << 50)))
+}
+
+/// The number in `(word number` with `end` after it.
+fn one_number(line: &[u8], opening: &[u8], end: &[u8]) -> Option<u64> {
+    number(line.strip_prefix(opening)?.strip_suffix(end)?)
+}
+
+/// The next whole line, and what is left after its LF.
+fn next_line(text: &[u8]) -> Option<(&[u8], &[u8])> {
+    let end = text.iter().position(|&b| b == b'\n')?;
+    Some((&text[..end], &text[end + 1..]))
+}
+
+struct PlantReader {
+    tables: Tables,
+    room: [usize; 6],
+    open: Vec<usize>,
+    in_term: bool,
+    devices_ended: bool,
+}
+
+impl PlantReader {
+    fn device(&mut self, level: u64) -> u32 {
+        let count = self.tables.size();
+        if self.devices_ended {
+            return 21;
+        } else if level > 255 {
+            return 22;
+        } else if self.open.len() == 32 {
+            return 23;
+        } else if self.room[..3].iter().any(|&r| r <= count) {
+            return 27;
+        }
+        self.open.push(count);
+        self.tables.last.push(count as u16 + 1);
+        self.tables.root.push(self.open[0] as u16 + 1);
+        self.tables.level.push(level as u8);
+        0
+    }
+
+    fn term(&mut self, term: u64) -> u32 {
+        let count = self.tables.terms.len();
+        if self.in_term || !self.open.is_empty() {
+            return 21;
+        } else if !(1..=65_535).contains(&term) {
+            return 22;
+        } else if self.room[3..5].iter().any(|&r| r <= count) {
+            return 27;
+        } else if self.tables.terms.last().is_some_and(|&t| t as u64 >= term) {
+            return 28;
+        }
+        self.in_term = true;
+        self.devices_ended = true;
+        self.tables.terms.push(term as u16);
+        self.tables.starts.push(self.tables.postings.len() as u32);
+        0
+    }
+
+    fn posting(&mut self, device: u64, shared: u32) -> u32 {
+        if !self.in_term {
+            return 21;
+        } else if device == 0 || device > self.tables.size() as u64 {
+            return 22;
+        } else if self.room[5] <= self.tables.postings.len() {
+            return 27;
+        }
+        let list = &self.tables.postings[*self.tables.starts.last().unwrap() as usize..];
+        if list.last().is_some_and(|&q| device_of(q) as u64 >= device) {
+            return 28;
+        } else if list.iter().any(|&q| self.tables.reach(q) as u64 >= device) {
+            return 29;
+        }
+        self.tables.postings.push(2 * device as u32 + shared);
+        0
+    }
+
+    /// A closing bracket inside the plant; true: it closes the plant.
+    fn close(&mut self) -> bool {
+        if self.in_term {
+            self.in_term = false;
+            return false;
+        }
+        match self.open.pop() {
+            Some(index) => {
+                self.tables.last[index] = self.tables.size() as u16;
+                false
+            }
+            None => true,
+        }
+    }
+
+    fn line(&mut self, line: &[u8]) -> u32 {
+        if let Some(level) = one_number(line, b"(dev ", b"") {
+            self.device(level)
+        } else if let Some(term) = one_number(line, b"(mark ", b"") {
+            self.term(term)
+        } else if let Some(device) = one_number(line, b"(all ", b")") {
+            self.posting(device, 1)
+        } else if let Some(device) = one_number(line, b"(own ", b")") {
+            self.posting(device, 0)
+        } else {
+            21
+        }
+    }
+}
+
+/// The tables of a plant text, where each of the six has room for so many entries.
+pub fn read_plant(text: &[u8], room: [usize; 6]) -> Result<Tables, Refused> {
+    if text.len() > 65_536 {
+        return Err((20, 0));
+    }
+    let mut reader = PlantReader { tables: Tables::default(), room, open: vec![], in_term: false, devices_ended: false };
+    let mut rest = text;
+    let mut closed = false;
+    for k in 1.. {
+        if closed {
+            return if rest.is_empty() { Ok(reader.tables) } else { Err((25, k)) };
+        }
+        let Some((line, after)) = next_line(rest) else { return Err((24, k)) };
+        rest = after;
+        let refusal = if k == 1 {
+            if line == b"(plant" {
+                0
+            } else {
+                21
+            }
+        } else if line == b")" {
+            closed = reader.close();
+            0
+        } else {
+            reader.line(line)
+        };
+        if refusal != 0 {
+            return Err((refusal, k));
+        }
+    }
+    unreachable!()
+}
+
+/// The stage of an ask line: need, not, level, from and moves come in this order.
+fn query_line(line: &[u8]) -> Option<(u32, Vec<u64>)> {
+    let openings: [&[u8]; 5] = [b"(need ", b"(not ", b"(level ", b"(from ", b"(moves "];
+    let stage = openings.iter().position(|o| line.starts_with(o))?;
+    let inside = line[openings[stage].len()..].strip_suffix(b")")?;
+    let numbers: Option<Vec<u64>> = inside.split(|&b| b == b' ').map(number).collect();
+    let numbers = numbers.filter(|n| n.len() == if stage == 2 { 2 } else { 1 })?;
+    Some((stage as u32, numbers))
+}
+
+pub fn read_query(text: &[u8]) -> Result<Query, Refused> {
+    if text.len() > 4_096 {
+        return Err((30, 0));
+    }
+    let mut query = Query::empty();
+    let mut rest = text;
+    let mut closed = false;
+    let mut stage = 0;
+    for k in 1.. {
+        if closed {
+            return if rest.is_empty() { Ok(query) } else { Err((34, k)) };
+        }
+        let Some((line, after)) = next_line(rest) else { return Err((33, k)) };
+        rest = after;
+        if k == 1 {
+            if line != b"(ask" {
+                return Err((31, k));
+            }
+            continue;
+        }
+        if line == b")" {
+            closed = true;
+            continue;
+        }
+        let Some((at, numbers)) = query_line(line) else { return Err((31, k)) };
+        if at < stage {
+            return Err((31, k));
+        }
+        if numbers.iter().any(|&n| n > u32::MAX as u64) {
+            return Err((32, k));
+        }
+        let first = numbers[0] as u32;
+        let terms = if at == 0 { &mut query.required } else { &mut query.forbidden };
+        match at {
+            0 | 1 if terms.len() == 8 => return Err((35, k)),
+            0 | 1 => terms.push(first),
+            2 => query.levels = Some((first, numbers[1] as u32)),
+            3 => query.start = first,
+            _ => query.budget = first,
+        }
+        stage = if at < 2 { at } else { at + 1 };
+    }
+    unreachable!()
+}
+
+/// What the program has room for: devices, terms, postings.
+pub const ROOM: [usize; 6] = [1_024, 1_024, 1_024, 256, 256, 4_096];
+
+/// What the program prints for a plant text and an ask text.
+pub fn respond(plant: &[u8], query: &[u8]) -> Vec<u8> {
+    let tables = match read_plant(plant, ROOM) {
+        Ok(tables) => tables,
+        Err((number, line)) => return format!("(refused plant {number} {line})\n").into_bytes(),
+    };
+    let query = match read_query(query) {
+        Ok(query) => query,
+        Err((number, line)) => return format!("(refused ask {number} {line})\n").into_bytes(),
+    };
+    let mut answer = vec![0; ROOM[0]];
+    let end = tables.search(&query, &mut answer);
+    if end.refusal != 0 {
+        return format!("(refused query {})\n", end.refusal).into_bytes();
+    }
+    let mut out = String::from("(answer\n");
+    for device in &answer[..end.count as usize] {
+        out += &format!("(device {device})\n");
+    }
+    out += &format!("(place {})\n(moves {})\n)\n", end.position, end.moves);
+    out.into_bytes()
+}

@@ -1,0 +1,77 @@
+//! Document 01's worked rows over plant P, which the plain implementation must give.
+use crate::generate::P;
+use crate::paper::{read_plant, read_query, respond, Tables};
+
+/// The ask lines of a row, its devices, place and moves.
+type Row = (&'static str, &'static [u16], u32, u32);
+
+const ROWS: [Row; 12] = [
+    ("(need 7)\n", &[2, 3, 5], 7, 2),
+    ("(need 9)\n", &[4, 5, 6], 7, 0),
+    ("(need 7)\n(not 9)\n", &[2, 3], 7, 1),
+    ("(need 9)\n(not 7)\n", &[4, 6], 7, 2),
+    ("(need 7)\n(level 100 140)\n", &[2], 7, 2),
+    ("(need 7)\n(not 9)\n(moves 0)\n", &[2, 3], 4, 0),
+    ("(need 8)\n", &[], 7, 0),
+    ("(not 8)\n", &[1, 2, 3, 4, 5, 6], 7, 0),
+    ("(need 7)\n(not 7)\n", &[], 7, 3),
+    ("(level 0 254)\n", &[1, 2, 4, 5, 6], 7, 0),
+    ("(need 9)\n(from 6)\n", &[6], 7, 0),
+    ("(need 7)\n(from 7)\n", &[], 7, 0),
+];
+
+fn response(ask: &str) -> String {
+    String::from_utf8(respond(P, format!("(ask\n{ask})\n").as_bytes())).unwrap()
+}
+
+#[test]
+fn rows_over_p() {
+    for (ask, devices, place, moves) in ROWS {
+        let listing: String = devices.iter().map(|d| format!("(device {d})\n")).collect();
+        assert_eq!(response(ask), format!("(answer\n{listing}(place {place})\n(moves {moves})\n)\n"), "{ask}");
+    }
+    assert_eq!(String::from_utf8(respond(b"(plant\n)\n", b"(ask\n)\n")).unwrap(), "(answer\n(place 1)\n(moves 0)\n)\n");
+    assert_eq!(response("(from 8)\n"), "(refused query 13)\n");
+    assert_eq!(response("(level 0 255)\n"), "(refused query 12)\n");
+}
+
+#[test]
+fn tables_of_p() {
+    let p = read_plant(P, [6, 6, 6, 2, 2, 3]).unwrap();
+    let expected = Tables {
+        last: vec![6, 3, 3, 6, 5, 6],
+        root: vec![1; 6],
+        level: vec![120, 118, 255, 121, 90, 119],
+        terms: vec![7, 9],
+        starts: vec![0, 2],
+        postings: vec![5, 10, 9],
+    };
+    assert_eq!(p, expected);
+    let of_7 = |postings: &[u32]| Tables { terms: vec![7], starts: vec![0], postings: postings.to_vec(), ..p.clone() };
+    assert_eq!(of_7(&[5, 6]).check(), 9);
+    assert_eq!(of_7(&[2, 5]).check(), 0);
+    assert_eq!(crate::slow::check(&of_7(&[5, 6])), 9);
+    assert_eq!(crate::slow::check(&of_7(&[2, 5])), 0);
+}
+
+#[test]
+fn texts_that_are_refused() {
+    let plant = |text: &str| read_plant(text.as_bytes(), [9; 6]).unwrap_err();
+    assert_eq!(plant(""), (24, 1));
+    assert_eq!(plant(")\n"), (21, 1));
+    assert_eq!(plant("(plant\n)\n)\n"), (25, 3));
+    assert_eq!(plant("(plant\n(dev 256\n"), (22, 2));
+    assert_eq!(plant("(plant\n(dev 1\n(own 1)\n"), (21, 3));
+    assert_eq!(plant("(plant\n)"), (24, 2));
+    assert_eq!(plant(&format!("(plant\n{}", "(dev 1\n".repeat(40))), (27, 11));
+    let deep = format!("(plant\n{}", "(dev 1\n".repeat(40));
+    assert_eq!(read_plant(deep.as_bytes(), [99; 6]).unwrap_err(), (23, 34));
+    let query = |text: &str| read_query(text.as_bytes()).unwrap_err();
+    assert_eq!(query(""), (33, 1));
+    assert_eq!(query(")\n"), (31, 1));
+    assert_eq!(query("(ask\n(not 1)\n(need 1)\n"), (31, 3));
+    assert_eq!(query("(ask\n(from 1)\n(from 1)\n"), (31, 3));
+    assert_eq!(query("(ask\n(need 4294967296)\n"), (32, 2));
+    assert_eq!(query(&format!("(ask\n{}", "(not 1)\n".repeat(9))), (35, 10));
+    assert_eq!(query("(ask\n)\n\n"), (34, 3));
+}

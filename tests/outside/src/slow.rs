@@ -1,0 +1,104 @@
+//! The slow unshared evaluator: what matches, by writing every list out, and what is promised of a run, with no cursor in it.
+use crate::paper::{device_of, Answer, Query, Tables};
+
+/// Every device that carries the term, marked.
+fn carriers(tables: &Tables, term: u32) -> Vec<bool> {
+    let mut carries = vec![false; tables.size() + 1];
+    for &posting in tables.list_of(term) {
+        let device = device_of(posting);
+        let end = if posting % 2 == 1 { tables.last[device - 1] as usize } else { device };
+        for d in device..=end {
+            carries[d] = true;
+        }
+    }
+    carries
+}
+
+pub fn matches(tables: &Tables, query: &Query) -> Vec<bool> {
+    let required: Vec<_> = query.required.iter().map(|&t| carriers(tables, t)).collect();
+    let forbidden: Vec<_> = query.forbidden.iter().map(|&t| carriers(tables, t)).collect();
+    let wanted = |d: usize| {
+        let code = tables.level[d - 1] as u32;
+        d > 0
+            && required.iter().all(|c| c[d])
+            && !forbidden.iter().any(|c| c[d])
+            && query.levels.is_none_or(|(low, high)| (low..=high).contains(&code))
+    };
+    (0..=tables.size()).map(|d| d > 0 && wanted(d)).collect()
+}
+
+/// Refusals 1 to 9 as the table of document 01 says them, each device against each.
+pub fn check(t: &Tables) -> u32 {
+    let n = t.last.len();
+    if n > 65_535 || t.root.len() != n || t.level.len() != n {
+        return 1;
+    }
+    let last = |d: usize| t.last[d - 1] as usize;
+    let holds = |d: usize, e: usize| d <= e && e <= last(d);
+    let devices = || 1..=n;
+    if !devices().all(|d| d <= last(d) && last(d) <= n) {
+        return 2;
+    }
+    let apart = |d: usize, e: usize| last(d) < e || last(e) < d;
+    let inside = |d: usize, e: usize| d <= e && last(e) <= last(d);
+    if !devices().all(|d| devices().all(|e| apart(d, e) || inside(d, e) || inside(e, d))) {
+        return 3;
+    }
+    if !devices().all(|d| devices().find(|&e| holds(e, d)) == Some(t.root[d - 1] as usize)) {
+        return 4;
+    }
+    if t.terms.len() > 8_192 || t.postings.len() > 1_048_576 || t.starts.len() != t.terms.len() {
+        return 5;
+    }
+    let count = t.terms.len();
+    if (0..count).any(|k| t.terms[k] == 0 || (k > 0 && t.terms[k] <= t.terms[k - 1])) {
+        return 6;
+    }
+    let wrong = |k: usize| (k > 0 && t.starts[k] < t.starts[k - 1]) || t.starts[k] > t.postings.len() as u32;
+    if (count == 0 && !t.postings.is_empty()) || (count > 0 && t.starts[0] != 0) || (0..count).any(wrong) {
+        return 7;
+    }
+    let list = |k: usize| {
+        let end = if k + 1 < count { t.starts[k + 1] as usize } else { t.postings.len() };
+        &t.postings[t.starts[k] as usize..end]
+    };
+    let misplaced = |l: &[u32], i: usize| {
+        let d = device_of(l[i]);
+        d == 0 || d > n || (0..i).any(|j| device_of(l[j]) >= d)
+    };
+    if (0..count).any(|k| (0..list(k).len()).any(|i| misplaced(list(k), i))) {
+        return 8;
+    }
+    let redundant = |l: &[u32], e: usize| l.iter().any(|&q| q % 2 == 1 && device_of(q) < e && e <= last(device_of(q)));
+    if (0..count).any(|k| list(k).iter().any(|&q| redundant(list(k), device_of(q)))) {
+        return 9;
+    }
+    0
+}
+
+/// What an accepted answer breaks, if anything: `unlimited` is the answer to the same query with the largest budget.
+pub fn broken(tables: &Tables, query: &Query, got: Answer, listing: &[u16], unlimited: Answer) -> Option<&'static str> {
+    let n = tables.size();
+    let position = got.position as usize;
+    let matching = matches(tables, query);
+    let expected: Vec<u16> = (query.start as usize..position).filter(|&d| matching[d]).map(|d| d as u16).collect();
+    let named: usize = query.required.iter().chain(&query.forbidden).map(|&t| tables.list_of(t).len()).sum();
+    let complete = position == n + 1;
+    if position < query.start as usize || position > n + 1 {
+        Some("the position is outside start..N + 1")
+    } else if listing != expected {
+        Some("the listing is not the matching devices up to the position")
+    } else if got.moves > query.budget || got.moves as usize > named {
+        Some("more moves than the budget or than the postings named")
+    } else if complete == (query.budget < unlimited.moves) {
+        Some("complete with too small a budget, or stopped without need")
+    } else if !complete && got.moves != query.budget {
+        Some("stopped before the budget was spent")
+    } else if complete && (got.moves, got.count) != (unlimited.moves, unlimited.count) {
+        Some("a complete run differs from the unlimited one")
+    } else if !complete && query.budget as usize >= named {
+        Some("stopped with a budget for every posting named")
+    } else {
+        None
+    }
+}
