@@ -18,14 +18,16 @@ fn wide(x: u16) -> usize
     x as usize
 }
 
-// The last device that a posting carries its term to.
+// The last device that a posting carries its term to. The table is read before it is known whether the posting is shared: the choice is then
+// no branch to be guessed.
 pub fn reach_of(last: &[u16], posting: u32) -> usize
     requires { ⌜ (1 ≤ device posting) × (device posting ≤ length (now last)) ⌝ }
     ensures { λ r. ⌜ r ≡ reach (now (last .entry)) posting ⌝ }
 {
     let d = device_of(posting);
+    let end = wide(last[d - 1]);
     if posting % 2 == 1 {
-        return wide(last[d - 1]);
+        return end;
     }
     d
 }

@@ -1,15 +1,16 @@
 -- What an accepted query is, and its answer from the end of its run.
-use Prim.Native.Nat.{ℕ, zero, suc, _+_, _-_, _≤_, _<_}
+use Prim.Native.Nat.{ℕ, zero, suc, _+_, _≤_, _<_}
 use native.Mathlib.Omega.{arith}
-use mathlib.Core.Bool.{Bool, true, false, _||_}
-use mathlib.Core.List.{List, [], _∷_, _++_, map}
-use mathlib.Core.Path.{_≡_, refl, sym, ap, _∙_}
+use native.Mathlib.Nat.{zero-add}
+use mathlib.Core.Bool.{false, _||_}
+use mathlib.Core.List.{List, [], _∷_, _++_, map, map-append}
+use mathlib.Core.Path.{_≡_, refl, sym, _∙_}
 use denote.Ref.{RefT, now}
-use lib.ListN.{length, getD, take, drop, length-map, length-take, List·getD-map}
-use lib.Seq.{take-at}
+use lib.ListN.{length, getD, take, length-map, length-append}
+use lib.Seq.{take-at, drop-at}
 use lib.Dec.{ltb}
 use Rattle.laws.specs.Search.{any}
-use Rattle.laws.specs.Tables.{entry, IsEntry}
+use Rattle.laws.specs.Tables.{entry}
 use Rattle.laws.proofs.Tests.{tests, flags}
 use Rattle.laws.proofs.Rows.{pick-none, otherwise-first, otherwise-next, otherwise-none}
 use Rattle.laws.proofs.Maps.{map-take}
@@ -22,7 +23,7 @@ use Rattle.index.proofs.Lists.{here, ranged}
 use Rattle.index.proofs.Accepted.{SoundList, accepted, accepted-list-of}
 use Rattle.query.specs.Query.{required, forbidden, crowded, no-terms, no-range, no-start, query-refusal}
 use Rattle.query.specs.Matching.{in-range}
-use Rattle.query.specs.Steps.{End, run}
+use Rattle.query.specs.Steps.{State, End, run}
 use Rattle.query.specs.Cursors.{Sound, Lists, Tables, begin, Ends}
 use Rattle.query.specs.Answer.{lists, refusal, steps, told, written, answer, answer-list}
 use Rattle.query.specs.Promises.{Kept}
@@ -66,7 +67,7 @@ admitted P I q n h =
     let f13 = simp tests at (r13 .0) in
     let r14 = pick-none (ltb n (size P)) 13 _ (r13 .1) in
     record {
-      tables = record { same = s .roots; few = s .few };
+      tables = record { same = s .roots; few = s .few; inside = λ d e. s .inside d (e .first) (e .last) };
       levels = s .levels;
       roomy = omega (flags, r14 .0);
       start = omega arith;
@@ -83,27 +84,35 @@ getD-within-map f (t ∷ ts) zero h = refl
 getD-within-map f (t ∷ ts) (suc k) h = getD-within-map f ts k (omega arith)
 
 -- the lists of some terms
-lists-sound : {P : Plant} {I : Index} {q : Query} {n : ℕ} → Admitted P I q n → (ts : List ℕ) → length ts ≤ 8 → Lists (P .last) (map (list-of I) ts)
+lists-sound : {P : Plant} {I : Index} {q : Query} {n : ℕ} → Admitted P I q n → (ts : List ℕ) → length ts ≤ 16 → Lists (P .last) (map (list-of I) ts)
 lists-sound {P} {I} a ts h = record { few = rw length-map h; each = λ k b. rw (getD-within-map (list-of I) ts k (rw length-map at b)) (a .list (getD ts k 0)) }
 
--- the first m of some slices are the lists of some terms
-lists-are : (I : Index) (ts : List ℕ) (slices : List (RefT (List ℕ))) {m : ℕ} → m ≡ length ts
-    → take (length ts) (map now slices) ≡ map (list-of I) ts → map now (take m slices) ≡ map (list-of I) ts
-lists-are I ts slices {m} e f = map-take now m slices ∙ rw e f
+-- slices that were set to the lists of k terms, and after those to the lists of f more
+module _ (I : Index) (ts us : List ℕ) (slices slices′ : List (RefT (List ℕ))) {k f : ℕ} (e : k ≡ length ts) (g : f ≡ length us)
+    (x : take (0 + length ts) (map now slices) ≡ map (list-of I) ts)
+    (y : take (k + length us) (map now slices′) ≡ take k (map now slices) ++ map (list-of I) us) where
+  lists-are : map now (take (k + f) slices′) ≡ map (list-of I) (ts ++ us)
+  lists-are =
+      let z : take k (map now slices) ≡ map (list-of I) ts = rw e (rw (zero-add (length ts)) at x) in
+      map-take now (k + f) slices′ ∙ rw (g, y, z, map-append)
 
-pub lists-fit : {P : Plant} {I : Index} {q : Query} {n : ℕ} → Admitted P I q n → (ts : List ℕ) (slices : List (RefT (List ℕ))) {m : ℕ} → m ≤ 8 → m ≡ length ts
-    → take (length ts) (map now slices) ≡ map (list-of I) ts → Lists (P .last) (map now (take m slices))
-lists-fit {I = I} a ts slices h e f = rw (lists-are I ts slices e f) (lists-sound a ts (omega arith))
+  pub lists-fit : {P : Plant} {q : Query} {n : ℕ} → Admitted P I q n → k ≤ 8 → f ≤ 8 → Lists (P .last) (map now (take (k + f) slices′))
+  lists-fit a h j = rw lists-are (lists-sound a (ts ++ us) (rw length-append (omega arith)))
 
--- the end of a run along those lists is the end of the steps
-pub run-steps : (P : Plant) (I : Index) (q : Query) (slices slices′ : List (RefT (List ℕ))) {out out′ : List ℕ} {r : Listing}
-    → q .«required_count» ≡ length (required q) → take (length (required q)) (map now slices) ≡ lists I (required q)
-    → q .«forbidden_count» ≡ length (forbidden q) → take (length (forbidden q)) (map now slices′) ≡ lists I (forbidden q)
-    → Ends (run (P .last) (P .root) (λ d. in-range (q .levels) (entry (P .level) d)) (q .budget) (size P + 1)
-    (begin (map now (take (q .«required_count») slices)) (map now (take (q .«forbidden_count») slices′)) (q .start))) out out′ r
+  -- a run along those lists begins with the lists of both kinds of terms
+  pub begins : (start : ℕ) → begin k (map now (take (k + f) slices′)) start
+      ≡ record { position = start; required = map (list-of I) ts; forbidden = map (list-of I) us; moves = 0 }
+  begins start =
+      let l : length (map (list-of I) ts) ≡ k = rw length-map (sym e) in
+      rw (lists-are, map-append, take-at (map (list-of I) ts) (map (list-of I) us) k l, drop-at (map (list-of I) ts) (map (list-of I) us) k l)
+
+-- so its end is the end of the steps
+pub run-steps : (P : Plant) (I : Index) (q : Query) {s : State} {out out′ : List ℕ} {r : Listing}
+    → s ≡ record { position = q .start; required = lists I (required q); forbidden = lists I (forbidden q); moves = 0 }
+    → Ends (run (P .last) (P .root) (λ d. in-range (q .levels) (entry (P .level) d)) (q .budget) (size P + 1) s) out out′ r
     → Ends (steps P I q (q .budget)) out out′ r
 unfolding steps
-run-steps P I q slices slices′ e f g h x = rw (lists-are I (required q) slices e f, lists-are I (forbidden q) slices′ g h) at x
+run-steps P I q e x = rw e at x
 
 -- ---- the refusal
 

@@ -10,7 +10,9 @@ pub mod Kept
 pub mod Rows
 -- The code by index
 pub mod BringByIndex
+pub mod OneRound
 pub mod RoundByIndex
+pub mod Written
 pub mod RunByIndex
 pub mod Gathering
 pub mod QueryRows

@@ -1,79 +1,27 @@
--- Laws of a round of one side's cursors, on plain values.
-use Prim.Native.Nat.{ℕ, zero, suc, _+_, _-_, _≤_, _<_, zero-le}
+-- Laws of a round of all cursors by index, on plain values.
+use Prim.Native.Nat.{ℕ, suc, _+_, _-_, _≤_, _<_, zero-le, min}
 use native.Mathlib.Omega.{arith}
 use native.Mathlib.Numerals.{add-one}
 use native.Mathlib.Nat.{zero-add, add-zero}
-use mathlib.Core.Bool.{Bool, true, false, cond, _||_, true≢false}
+use mathlib.Core.Bool.{Bool, true, false, cond, not, Bool·beq, true≢false, false≢true}
 use mathlib.Core.List.{List, [], _∷_, _++_, map, append-assoc, append-nil}
 use mathlib.Core.Path.{_≡_, refl, sym, ap, _∙_}
 use denote.Ref.{RefT, now}
 use lib.Dec.{ltb}
-use lib.ListN.{length, getD, take, drop, set, length-set, length-take, List·getD-map}
+use lib.ListN.{length, getD, take, drop, set, length-set, List·getD-map}
 use lib.Seq.{drop-cons, take-suc, split-at, drop-length, take-length, length-take-le, getD-set-same, getD-set-other}
-use borrow.Author.Tests.{lt-ltb, le-ltb, ne-eqb}
+use borrow.Author.Tests.{lt-ltb, le-ltb}
 use Rattle.laws.specs.Tables.{IsEntry}
 use Rattle.laws.proofs.Cases.{by-order}
-use Rattle.index.specs.Postings.{device, reach}
 use Rattle.query.specs.Steps as steps
-use Rattle.query.specs.Steps.{bring, stands, beyond, Round, again, passed, stop, keep, require, forbid}
-use Rattle.query.specs.Cursors.{Sound, Cursor, Brings, leave, cursors, Valid, Tables, side, Rounds}
+use Rattle.query.specs.Steps.{bring, again, passed, stop}
+use Rattle.query.specs.Cursors.{Cursor, Brings, cursors, Valid}
 use Rattle.query.specs.declared.cursor.Brought.{Brought}
-use Rattle.query.proofs.BringByIndex.{rest-none, rest-cons}
+use Rattle.query.specs.declared.run.Round.{Round}
+use Rattle.query.proofs.BringByIndex.{stays-put, stays-on}
+use Rattle.query.proofs.OneRound.{lead, lead-none, lead-keep, both, both-none, both-stop, both-keep, both-again}
 
--- ---- the definitions' rounds, by how the first cursor is brought
-
--- more cursors in front of a round's
-abbrev lead : List (List ℕ) → Round → Round
-lead xs (again cs m p) = again (xs ++ cs) m p
-lead xs (passed cs m) = passed (xs ++ cs) m
-lead xs stop = stop
-
-lead-none : (r : Round) → r ≡ lead [] r
-lead-none (again cs m p) = refl
-lead-none (passed cs m) = refl
-lead-none stop = refl
-
-lead-keep : (xs : List (List ℕ)) (c : List ℕ) (r : Round) → lead xs (keep c r) ≡ lead (xs ++ (c ∷ [])) r
-lead-keep xs c (again cs m p) = simp append-assoc
-lead-keep xs c (passed cs m) = simp append-assoc
-lead-keep xs c stop = refl
-
-beyond-pos : (last c : List ℕ) → beyond last c ≡ 0 → ⊥
-beyond-pos last [] e = omega arith
-beyond-pos last (q ∷ c) e = omega arith
-
-module _ (last root : List ℕ) (budget p m : ℕ) where
-  side-none : (s : Bool) → side s last root budget p m [] ≡ passed [] m
-  unfolding require forbid
-  side-none true = refl
-  side-none false = refl
-
-  module _ (c : List ℕ) (cs : List (List ℕ)) where
-    side-stop : (s : Bool) → bring last root budget p 0 m c ≡ steps.spent → side s last root budget p m (c ∷ cs) ≡ stop
-    unfolding require forbid
-    side-stop true e = simp (require, e)
-    side-stop false e = simp (forbid, e)
-
-    module _ (c′ : List ℕ) (m′ : ℕ) (e : bring last root budget p 0 m c ≡ steps.at c′ m′) where
-      side-keep : (s : Bool) → leave s last p c′ ≡ 0 → side s last root budget p m (c ∷ cs) ≡ keep c′ (side s last root budget p m′ cs)
-      unfolding require forbid
-      side-keep true z =
-          by-order p (stands last c′) (λ h. let z′ = rw (lt-ltb p (stands last c′) h) at z in absurd (omega arith))
-          (λ h. simp (require, e, le-ltb p (stands last c′) h))
-      side-keep false z =
-          by-order p (stands last c′) (λ h. simp (forbid, e, lt-ltb p (stands last c′) h))
-          (λ h. absurd (beyond-pos last c′ (rw (le-ltb p (stands last c′) h) at z)))
-
-      side-again : (s : Bool) → (leave s last p c′ ≡ 0 → ⊥) → side s last root budget p m (c ∷ cs) ≡ again (c′ ∷ cs) m′ (leave s last p c′)
-      unfolding require forbid
-      side-again true z =
-          by-order p (stands last c′) (λ h. simp (require, e, lt-ltb p (stands last c′) h))
-          (λ h. absurd (z (rw (le-ltb p (stands last c′) h))))
-      side-again false z =
-          by-order p (stands last c′) (λ h. absurd (z (rw (lt-ltb p (stands last c′) h))))
-          (λ h. simp (forbid, e, le-ltb p (stands last c′) h))
-
--- ---- the cursors of a side, by index
+-- ---- the cursors, by index
 
 cursors-agree : (x y : List ℕ) (i : ℕ) (ls : List (List ℕ)) → ((k : ℕ) → i ≤ k → k < i + length ls → getD x k 0 ≡ getD y k 0)
     → cursors x i ls ≡ cursors y i ls
@@ -81,6 +29,11 @@ unfolding cursors
 cursors-agree x y i [] h = refl
 cursors-agree x y i (l ∷ ls) h =
     rw (h i (omega arith) (omega arith), cursors-agree x y (suc i) ls (λ k a b. h k (omega arith) (omega arith)))
+
+pub cursors-long : (x : List ℕ) (i : ℕ) (ls : List (List ℕ)) → length (cursors x i ls) ≡ length ls
+unfolding cursors
+cursors-long x i [] = refl
+cursors-long x i (l ∷ ls) = ap suc (cursors-long x (suc i) ls)
 
 cursors-append : (x : List ℕ) (i : ℕ) (ls ks : List (List ℕ)) → cursors x i (ls ++ ks) ≡ cursors x i ls ++ cursors x (i + length ls) ks
 unfolding cursors
@@ -133,52 +86,70 @@ module _ (x : List ℕ) (ls : List (List ℕ)) (i j : ℕ) (h : i < length ls) (
         by-order k i (λ l. other (omega arith)) (λ l. by-order i k (λ g. other (omega arith)) (λ g. let e : k ≡ i = omega arith in rw e here));
   }
 
--- ---- where a cursor that has been brought leaves its round
-
-module _ {last root l : List ℕ} {budget p m i : ℕ} {r : Brought} (b : Brings last root l budget p m i r) where
-  pub cursor-brought : Cursor last l i → Cursor last l (r .at)
-  cursor-brought k = record { sound = k .sound; within = b .within }
-
-  leave-rises : (s : Bool) {d : ℕ} → IsEntry last p → r .spent ≡ false → d ≡ leave s last p (drop (r .at) l) → (d ≡ 0 → ⊥) → p < d
-  leave-rises true e f q z =
-      by-order p (stands last (drop (r .at) l)) (λ h. let w = rw (lt-ltb p (stands last (drop (r .at) l)) h) at q in omega arith)
-      (λ h. absurd (z (rw (le-ltb p (stands last (drop (r .at) l)) h) at q)))
-  leave-rises false e f q z =
-      by-order p (stands last (drop (r .at) l)) (λ h. absurd (z (rw (lt-ltb p (stands last (drop (r .at) l)) h) at q)))
-      (λ h. let w = rw (le-ltb p (stands last (drop (r .at) l)) h) at q in
-      by-order (r .at) (length l)
-      (λ u. let n = b .reached f u (rw (rest-cons l u) at h) in let w′ = rw (rest-cons l u) at w in omega arith)
-      (λ u. let h′ = rw (rest-none l u) at h in absurd (omega arith)))
-
 -- ---- a round
+
+-- what a test `a != b` of two flags shows
+unlike : (a b : Bool) → not (Bool·beq a b) ≡ true → a ≡ b → ⊥
+unlike true true h e = false≢true h
+unlike true false h e = true≢false e
+unlike false true h e = false≢true e
+unlike false false h e = false≢true h
+
+alike : (a b : Bool) → not (Bool·beq a b) ≡ false → a ≡ b
+alike true true h = refl
+alike true false h = absurd (true≢false h)
+alike false true h = absurd (true≢false h)
+alike false false h = refl
 
 -- what lies behind the element at i of an array of slices; past its end stands an empty one
 pub element : (l : List (RefT (List ℕ))) (i : ℕ) → now (getD l i (record { ptr = (0, 0); name = 0; now = [] })) ≡ getD (map now l) i []
 element l i = sym (List·getD-map now l i _)
 
--- the cursors before i, of n, are done: those from i on, m′ moves having been made, give what the whole gives
-pub record Doing (last root : List ℕ) (ls : List (List ℕ)) (n budget p m : ℕ) (s : Bool) (x₀ x : List ℕ) (m′ i : ℕ) : Type 0 where
+-- a round has been made at position p, as one of all cursors
+pub record Rounds (last root : List ℕ) (ls : List (List ℕ)) (k budget p m : ℕ) (x₀ x : List ℕ) (r : Round) : Type 0 where
+  pub valid : Valid last ls x
+  pub from : p ≤ r .to
+  pub inside : r .to ≤ length last
+  pub same : both last root budget p m k (cursors x₀ 0 ls)
+      ≡ cond (r .stop) stop (cond (r .passed) (passed (cursors x 0 ls) (r .moves)) (again (cursors x 0 ls) (r .moves) (r .to + 1)))
+  pub steady : r .passed ≡ true → (q j : ℕ) → p ≤ q → q ≤ r .to → both last root budget q j k (cursors x 0 ls) ≡ passed (cursors x 0 ls) j
+
+-- the cursors before i, of n, are done, and pass at each position from p to `to`: those from i on, m′ moves having been made, give what the
+-- whole gives
+pub record Doing (last root : List ℕ) (ls : List (List ℕ)) (n k budget p m : ℕ) (x₀ x : List ℕ) (m′ to i : ℕ) : Type 0 where
   pub count : length ls ≡ n
   pub valid : Valid last ls x
-  pub to : i ≤ length ls
-  pub same : side s last root budget p m (cursors x₀ 0 ls) ≡ lead (cursors x 0 (take i ls)) (side s last root budget p m′ (cursors x i (drop i ls)))
+  pub within : i ≤ length ls
+  pub from : p ≤ to
+  pub inside : to ≤ length last
+  pub same : both last root budget p m k (cursors x₀ 0 ls)
+      ≡ lead (cursors x 0 (take i ls)) (both last root budget p m′ (k - i) (cursors x i (drop i ls)))
+  pub steady : (q j : ℕ) → p ≤ q → q ≤ to → (rest : List (List ℕ))
+      → both last root budget q j k (cursors x 0 (take i ls) ++ rest) ≡ lead (cursors x 0 (take i ls)) (both last root budget q j (k - i) rest)
 
-pub doing-start : {last root : List ℕ} {ls : List (List ℕ)} {n budget p m : ℕ} {s : Bool} {x : List ℕ} → Valid last ls x → length ls ≡ n
-    → Doing last root ls n budget p m s x x m 0
+pub doing-start : {last root : List ℕ} {ls : List (List ℕ)} {n k budget p m : ℕ} {x : List ℕ} → Valid last ls x → IsEntry last p → length ls ≡ n
+    → Doing last root ls n k budget p m x x m (length last) 0
 unfolding cursors
-doing-start v e = record { count = e; valid = v; to = zero-le; same = lead-none _ }
+doing-start {k = k} v h e = let u : k - 0 ≡ k = omega arith in record {
+  count = e;
+  valid = v;
+  within = zero-le;
+  from = h .last;
+  inside = omega arith;
+  same = rw u (lead-none _);
+  steady = λ q j a b rest. rw u (lead-none _);
+}
 
-module _ {last root : List ℕ} {ls : List (List ℕ)} {n budget p m : ℕ} {s : Bool} {x₀ x : List ℕ} {m′ i : ℕ}
-    (a : Doing last root ls n budget p m s x₀ x m′ i) where
-  pub doing-ends : n ≤ i → Rounds last root ls budget p m s x₀ x (record { moves = m′; next = 0; stop = false })
+module _ {last root : List ℕ} {ls : List (List ℕ)} {n k budget p m : ℕ} {x₀ x : List ℕ} {m′ to i : ℕ} (a : Doing last root ls n k budget p m x₀ x m′ to i) where
+  pub doing-ends : n ≤ i → {r : Round} → r ≡ record { moves = m′; to = to; passed = true; stop = false } → Rounds last root ls k budget p m x₀ x r
   unfolding cursors
-  doing-ends h = record {
+  doing-ends h o = let e : i ≡ length ls = omega arith in rw o (record {
     valid = a .valid;
-    rises = λ z. absurd (z refl);
-    same =
-        let e : i ≡ length ls = omega arith in
-        a .same ∙ rw (e, drop-length, take-length, side-none last root budget p m′ s, append-nil);
-  }
+    from = a .from;
+    inside = a .inside;
+    same = a .same ∙ rw (e, drop-length, take-length, both-none last root budget p m′ (k - length ls), append-nil);
+    steady = λ _ q j u v. rw (e, take-length, both-none last root budget q j (k - length ls), append-nil) at (a .steady q j u v []);
+  })
 
   module _ (h : i < n) where
     inside : i < length ls
@@ -187,59 +158,80 @@ module _ {last root : List ℕ} {ls : List (List ℕ)} {n budget p m : ℕ} {s :
     indexed : i < length x
     indexed = let l = inside in omega arith
 
-    pub in-eight : i < 8
-    in-eight = let l = inside in omega arith
+    pub in-sixteen : i < 16
+    in-sixteen = let l = inside in omega arith
 
     pub here : {l : List ℕ} → l ≡ getD ls i [] → Cursor last l (getD x i 0)
     here e = rw e (a .valid .each i inside)
 
-    module _ {l : List ℕ} {r : Brought} (b : Brings last root l budget p m′ (getD x i 0) r) (o : l ≡ getD ls i []) where
-      pub doing-stops : r .spent ≡ true → Rounds last root ls budget p m s x₀ x (record { moves = budget; next = 0; stop = true })
-      doing-stops e = record {
+    module _ {l : List ℕ} {b : Brought} (g : Brings last root l budget p m′ (getD x i 0) b) (o : l ≡ getD ls i []) where
+      pub doing-stops : IsEntry last p → b .spent ≡ true → {r : Round} → r ≡ record { moves = budget; to = p; passed = false; stop = true }
+          → Rounds last root ls k budget p m x₀ x r
+      doing-stops w e f = rw f (record {
         valid = a .valid;
-        rises = λ z. absurd (z refl);
-        same = a .same ∙ rw (cursors-from x ls i inside, ← o, side-stop last root budget p m′ _ _ s (rw e at (b .same)));
-      }
+        from = omega arith;
+        inside = w .last;
+        same = a .same ∙ rw (cursors-from x ls i inside, ← o, both-stop last root budget p m′ _ _ (k - i) (rw e at (g .same)));
+        steady = λ z. absurd (false≢true z);
+      })
 
-      module _ (e : r .spent ≡ false) {d : ℕ} (q : d ≡ leave s last p (drop (r .at) l)) where
-        brought : bring last root budget p 0 m′ (drop (getD x i 0) l) ≡ steps.at (drop (r .at) l) (r .moves)
-        brought = rw e at (b .same)
+      module _ (e : b .spent ≡ false) {asked : Bool} (q : asked ≡ ltb i k) where
+        brought : bring last root budget p 0 m′ (drop (getD x i 0) l) ≡ steps.at (drop (b .at) l) (b .moves)
+        brought = rw e at (g .same)
 
-        moved : Valid last ls (set x i (r .at))
-        moved = put-valid x ls i (r .at) inside indexed (a .valid) (rw (← o) (b .within))
+        moved : Valid last ls (set x i (b .at))
+        moved = put-valid x ls i (b .at) inside indexed (a .valid) (rw (← o) (g .within))
 
-        pub doing-again : IsEntry last p → (d ≡ 0 → ⊥)
-            → Rounds last root ls budget p m s x₀ (set x i (r .at)) (record { moves = r .moves; next = d; stop = false })
-        doing-again k z = record {
+        left : asked ≡ ltb 0 (k - i)
+        left = q ∙ by-order i k (λ u. sym (rw (lt-ltb i k u, lt-ltb 0 (k - i) (omega arith)))) (λ u. sym (rw (le-ltb i k u, le-ltb 0 (k - i) (omega arith))))
+
+        pub doing-again : not (Bool·beq (b .carries) asked) ≡ true → {r : Round} → r ≡ record { moves = b .moves; to = b .to; passed = false; stop = false }
+            → Rounds last root ls k budget p m x₀ (set x i (b .at)) r
+        doing-again z f = let y = g .stays e in rw f (record {
           valid = moved;
-          rises = leave-rises b s k e q;
+          from = y .from;
+          inside = y .inside;
           same =
               a .same
               ∙ rw (
                 cursors-from x ls i inside,
                 ← o,
-                side-again last root budget p m′ _ _ _ (r .moves) brought s (λ y. z (q ∙ y)),
-                ne-eqb d 0 z,
-                put-all x ls i (r .at) inside indexed,
+                both-again last root budget p m′ _ _ brought y (k - i) (λ w. unlike (b .carries) asked z (w ∙ sym left)),
+                put-all x ls i (b .at) inside indexed,
                 ← o,
-                ← q,
               );
-        }
+          steady = λ z. absurd (false≢true z);
+        })
 
-        pub doing-more : d ≡ 0 → Doing last root ls n budget p m s x₀ (set x i (r .at)) (r .moves) (i + 1)
-        doing-more z = record {
+        pub doing-more : not (Bool·beq (b .carries) asked) ≡ false → {to′ : ℕ} → to′ ≡ min (b .to) to
+            → Doing last root ls n k budget p m x₀ (set x i (b .at)) (b .moves) to′ (i + 1)
+        doing-more z t = let y = g .stays e in let c = alike (b .carries) asked z ∙ left in let u : k - i - 1 ≡ k - (i + 1) = omega arith in record {
           count = a .count;
           valid = moved;
-          to = let l = inside in omega arith;
+          within = let l = inside in omega arith;
+          from = omega (arith, y .from, a .from);
+          inside = omega (arith, a .inside);
           same =
               a .same
               ∙ rw (
                 cursors-from x ls i inside,
                 ← o,
-                side-keep last root budget p m′ _ _ _ (r .moves) brought s (sym q ∙ z),
+                both-keep last root budget p m′ _ _ brought y (k - i) c,
+                u,
                 lead-keep,
-                put-upto x ls i (r .at) inside indexed,
+                put-upto x ls i (b .at) inside indexed,
                 ← o,
-                kept-after x ls i (r .at) inside indexed,
+                kept-after x ls i (b .at) inside indexed,
+              );
+          steady = λ q j v w rest.
+              let s = stays-on y q v (omega arith) in
+              rw (
+                put-upto x ls i (b .at) inside indexed,
+                ← o,
+                append-assoc,
+                a .steady q j v (omega arith),
+                both-keep last root budget q j _ rest (stays-put s root budget j) s (k - i) c,
+                u,
+                lead-keep,
               );
         }

@@ -1,12 +1,14 @@
 -- How the code's indexes into lists stand for the definitions' cursors. The contracts of private functions alone cite this.
-use Prim.Native.Nat.{ℕ, zero, suc, _+_, _≤_, _<_}
+use Prim.Native.Nat.{ℕ, suc, _+_, _-_, _≤_, _<_}
 use mathlib.Core.Path.{_≡_}
-use mathlib.Core.Bool.{Bool, true, false, cond, _&&_}
+use mathlib.Core.Bool.{Bool, true, false, cond}
 use mathlib.Core.List.{List, [], _∷_, _++_}
-use lib.Dec.{ltb, eqb}
-use lib.ListN.{length, getD, drop}
-use Rattle.laws.specs.Tables.{IsEntry}
-use Rattle.index.specs.Postings.{device, reach}
+use lib.Dec.{leb}
+use lib.ListN.{length, getD, take, drop}
+use lib.Seq.{sets}
+use Rattle.laws.specs.Tables.{entry, IsEntry}
+use Rattle.index.specs.Postings.{device}
+use Rattle.query.specs.Matching.{matching}
 use Rattle.query.specs.Steps as steps
 use Rattle.query.specs.declared.cursor.Brought.{Brought}
 use Rattle.query.specs.declared.run.Round.{Round}
@@ -22,68 +24,73 @@ pub record Cursor (last l : List ℕ) (i : ℕ) : Type 0 where
   pub sound : Sound last l
   pub within : i ≤ length l
 
+-- a cursor at position p is as it is at each position from p to `to`: its posting carries to all of them, or it stands past all of them
+pub record Stays (last c : List ℕ) (p : ℕ) (carries : Bool) (to : ℕ) : Type 0 where
+  pub from : p ≤ to
+  pub inside : to ≤ length last
+  pub here : leb (steps.stands last c) p ≡ carries
+  pub next : to + 1 ≡ cond carries (steps.beyond last c) (steps.stands last c)
+
 -- the cursor at index i has been brought to position p, m moves having been made before
 pub record Brings (last root l : List ℕ) (budget p m i : ℕ) (r : Brought) : Type 0 where
   pub within : r .at ≤ length l
   pub same : steps.bring last root budget p 0 m (drop i l) ≡ cond (r .spent) steps.spent (steps.at (drop (r .at) l) (r .moves))
-  pub reached : r .spent ≡ false → r .at < length l → device (getD l (r .at) 0) ≤ p → p ≤ reach last (getD l (r .at) 0)
+  pub stays : r .spent ≡ false → Stays last (drop (r .at) l) p (r .carries) (r .to)
 
--- where a cursor brought to position p has its round begin again; 0: the round goes on
-abbrev pub leave : Bool → List ℕ → ℕ → List ℕ → ℕ
-leave true last p c = cond (ltb p (steps.stands last c)) (steps.stands last c) 0
-leave false last p c = cond (ltb p (steps.stands last c)) 0 (steps.beyond last c)
-
--- the cursors of one side, from number i on: what is left of each list
+-- the cursors from number i on: what is left of each list
 unfoldable pub cursors : List ℕ → ℕ → List (List ℕ) → List (List ℕ)
 cursors at i [] = []
 cursors at i (l ∷ ls) = drop (getD at i 0) l ∷ cursors at (suc i) ls
 
 pub record Valid (last : List ℕ) (ls : List (List ℕ)) (at : List ℕ) : Type 0 where
-  pub long : length at ≡ 8
-  pub few : length ls ≤ 8
+  pub long : length at ≡ 16
+  pub few : length ls ≤ 16
   pub each : (k : ℕ) → k < length ls → Cursor last (getD ls k []) (getD at k 0)
 
--- lists that cursors go along, at most eight
+-- lists that cursors go along: eight at most of required terms, and eight of forbidden ones
 pub record Lists (last : List ℕ) (ls : List (List ℕ)) : Type 0 where
-  pub few : length ls ≤ 8
+  pub few : length ls ≤ 16
   pub each : (k : ℕ) → k < length ls → Sound last (getD ls k [])
 
+-- device tables that cursors go by: a branch ends in the plant
 pub record Tables (last root : List ℕ) : Type 0 where
   pub same : length root ≡ length last
   pub few : length last ≤ 65535
+  pub inside : (d : ℕ) → IsEntry last d → entry last d ≤ length last
 
--- the round of the required cursors, or of the forbidden ones
-abbrev pub side : Bool → List ℕ → List ℕ → ℕ → ℕ → ℕ → List (List ℕ) → steps.Round
-side true = steps.require
-side false = steps.forbid
-
--- a round has been made: the cursors of the side go from `at` to `to`
-pub record Rounds (last root : List ℕ) (ls : List (List ℕ)) (budget p m : ℕ) (required : Bool) (at to : List ℕ) (r : Round) : Type 0 where
-  pub valid : Valid last ls to
-  pub rises : (r .next ≡ 0 → ⊥) → p < r .next
-  pub same : side required last root budget p m (cursors at 0 ls)
-      ≡ cond (r .stop) steps.stop (cond (eqb (r .next) 0) (steps.passed (cursors to 0 ls) (r .moves)) (steps.again (cursors to 0 ls) (r .moves) (r .next)))
-
--- the definitions' state, of required lists and indexes, forbidden lists and indexes, position and moves
-abbrev pub state : List (List ℕ) → List ℕ → List (List ℕ) → List ℕ → ℕ → ℕ → steps.State
-state rs at fs to p m = record { position = p; required = cursors at 0 rs; forbidden = cursors to 0 fs; moves = m }
+-- the definitions' state, of lists and indexes, position and moves: the first k cursors are of required terms
+abbrev pub state : ℕ → List (List ℕ) → List ℕ → ℕ → ℕ → steps.State
+state k ls at p m = record { position = p; required = take k (cursors at 0 ls); forbidden = drop k (cursors at 0 ls); moves = m }
 
 -- where a run begins: each cursor on the first posting of its list
-abbrev pub begin : List (List ℕ) → List (List ℕ) → ℕ → steps.State
-begin rs fs start = record { position = start; required = rs; forbidden = fs; moves = 0 }
+abbrev pub begin : ℕ → List (List ℕ) → ℕ → steps.State
+begin k ls start = record { position = start; required = take k ls; forbidden = drop k ls; moves = 0 }
 
--- the position after p, where a round at p ended with `next`; 0: every cursor passed
-abbrev pub after : ℕ → ℕ → ℕ
-after p next = cond (eqb next 0) (p + 1) next
+-- what is listed of the positions from p to `to`, where they passed
+abbrev pub stretch : Bool → (ℕ → Bool) → ℕ → ℕ → List ℕ
+stretch passed ok p to = cond passed (matching ok (to + 1 - p) p) []
 
--- one position of a run: the required cursors go from `at` to `at′`, the forbidden ones from `to` to `to′`
-pub record Turns (last root : List ℕ) (rs fs : List (List ℕ)) (budget p m : ℕ) (at to at′ to′ : List ℕ) (r : Round) : Type 0 where
-  pub required : Valid last rs at′
-  pub forbidden : Valid last fs to′
-  pub rises : (r .next ≡ 0 → ⊥) → p < r .next
-  pub same : (ok : ℕ → Bool) (n : ℕ) → steps.run last root ok budget (suc n) (state rs at fs to p m)
-      ≡ cond (r .stop) (steps.ends p budget true)
-      (steps.listing (eqb (r .next) 0 && ok p) p (steps.run last root ok budget n (state rs at′ fs to′ (after p (r .next)) (r .moves))))
+-- how many rounds that is
+abbrev pub rounds : Bool → ℕ → ℕ → ℕ
+rounds passed p to = cond passed (to + 1 - p) 1
+
+-- more devices in front of what a run lists
+abbrev pub led : List ℕ → steps.End → steps.End
+led xs e = record { listed = xs ++ e .listed; position = e .position; moves = e .moves; short = e .short }
+
+-- a round has been made at position p: the cursors go from `at` to `at′`. Where all pass, they pass so at each position up to the round's last.
+pub record Turns (last root : List ℕ) (ls : List (List ℕ)) (k budget p m : ℕ) (at at′ : List ℕ) (r : Round) : Type 0 where
+  pub valid : Valid last ls at′
+  pub from : p ≤ r .to
+  pub inside : r .to ≤ length last
+  pub stops : r .stop ≡ true → (ok : ℕ → Bool) (n : ℕ) → steps.run last root ok budget (suc n) (state k ls at p m) ≡ steps.ends p budget true
+  pub goes : r .stop ≡ false → (ok : ℕ → Bool) (n : ℕ) → steps.run last root ok budget (rounds (r .passed) p (r .to) + n) (state k ls at p m)
+      ≡ led (stretch (r .passed) ok p (r .to)) (steps.run last root ok budget n (state k ls at′ (r .to + 1) (r .moves)))
+
+-- what is listed of the positions from p to `to` has been written, after the first `count` entries
+pub record Writes (passed : Bool) (ok : ℕ → Bool) (p to : ℕ) (out out′ : List ℕ) (count count′ : ℕ) : Type 0 where
+  pub written : out′ ≡ sets out count (stretch passed ok p to)
+  pub long : count′ ≡ count + length (stretch passed ok p to)
 
 -- a run's end, as the code gives it: the listing stands at the front of what was lent, and the rest of that is kept
 pub record Ends (e : steps.End) (out out′ : List ℕ) (r : Listing) : Type 0 where

@@ -1,13 +1,11 @@
 // One cursor: an index into a sorted list of postings.
 ghost use mathlib.Core.Path.{_≡_};
-ghost use Prim.Native.Nat.{_≤_, _<_};
-ghost use mathlib.Core.Bool.{_||_};
-ghost use lib.ListN.{length, drop};
-ghost use lib.Dec.{ltb};
+ghost use Prim.Native.Nat.{_<_};
+ghost use mathlib.Core.Bool.{false};
 ghost use Rattle.laws.specs.Tables.{entry, IsEntry};
-ghost use Rattle.index.specs.Postings.{device, reach, carries};
+ghost use Rattle.index.specs.Postings.{device, reach};
 ghost use Rattle.query.specs.Steps.{target};
-ghost use Rattle.query.specs.Cursors.{Cursor, Brings, leave};
+ghost use Rattle.query.specs.Cursors.{Tables, Cursor, Brings};
 use index::seek;
 
 // The entry of device d.
@@ -19,27 +17,14 @@ fn entry_of(table: &[u16], d: u32) -> u32
     table[i] as u32
 }
 
-// The last device that posting q carries its term to.
+// The last device that posting q carries its term to. The table is read before it is known whether the posting is shared: the choice is then
+// no branch to be guessed.
 fn reach(last: &[u16], q: u32) -> u32
     requires { ⌜ IsEntry (now last) (device q) ⌝ }
     ensures { λ r. ⌜ (r ≡ reach (now (last .entry)) q) × (r < 2147483648) ⌝ }
 {
-    if q % 2 == 1 {
-        entry_of(last, q / 2)
-    } else {
-        q / 2
-    }
-}
-
-// Whether a cursor on posting q stays there at position p.
-fn stays(last: &[u16], p: u32, q: u32) -> bool
-    requires { ⌜ IsEntry (now last) (device q) ⌝ }
-    ensures { λ r. ⌜ r ≡ (ltb p (device q) || carries (now (last .entry)) q p) ⌝ }
-{
-    if p < q / 2 {
-        return true;
-    }
-    p <= reach(last, q)
+    let end = entry_of(last, q / 2);
+    if q % 2 == 1 { end } else { q / 2 }
 }
 
 // The device that a move from posting q towards position p goes to; 0: the next posting.
@@ -56,10 +41,26 @@ fn target(last: &[u16], root: &[u16], p: u32, q: u32) -> u32
     if end < p { end + 1 } else { 0 }
 }
 
+// A cursor brought to a position: its index, the moves made so far, whether its posting carries to the position, and the last position up to
+// which that stays so without a move; or that the next move would exceed the budget.
 pub struct Brought {
     pub at: usize,
     pub moves: u32,
+    pub carries: bool,
+    pub to: u32,
     pub spent: bool,
+}
+
+fn stays(at: usize, moves: u32, carries: bool, to: u32) -> Brought
+    ensures { λ r. ⌜ r ≡ record { at = at; moves = moves; carries = carries; to = to; spent = false } ⌝ }
+{
+    Brought {
+        at,
+        moves,
+        carries,
+        to,
+        spent: false,
+    }
 }
 
 // Brings the cursor at index `from` of a list to position p, `moves` moves having been made.
@@ -72,24 +73,26 @@ pub fn bring(
     budget: u32,
     moves: u32,
 ) -> Brought
-    requires { ⌜ Cursor (now last) (now list) from × IsEntry (now root) p ⌝ }
+    requires { ⌜ Tables (now last) (now root) × Cursor (now last) (now list) from × IsEntry (now last) p ⌝ }
     ensures { λ r. ⌜ Brings (now (last .entry)) (now (root .entry)) (now (list .entry)) budget p moves from r ⌝ }
 {
     let mut at = from;
     let mut made = moves;
     while at < list.len() {
         let q = list[at];
-        if stays(last, p, q) {
-            return Brought {
-                at,
-                moves: made,
-                spent: false,
-            };
+        if p < q / 2 {
+            return stays(at, made, false, q / 2 - 1);
+        }
+        let reached = reach(last, q);
+        if p <= reached {
+            return stays(at, made, true, reached);
         }
         if budget <= made {
             return Brought {
                 at,
                 moves: made,
+                carries: false,
+                to: p,
                 spent: true,
             };
         }
@@ -97,35 +100,5 @@ pub fn bring(
         made += 1;
         at = seek(list, at + 1, device);
     }
-    Brought {
-        at,
-        moves: made,
-        spent: false,
-    }
-}
-
-// Where a cursor brought to position p has its round begin again; 0: the round goes on.
-pub fn leave(last: &[u16], list: &[u32], at: usize, p: u32, required: bool) -> u32
-    requires { ⌜ (length (now last) ≤ 65535) × IsEntry (now last) p × Cursor (now last) (now list) at ⌝ }
-    ensures { λ r. ⌜ r ≡ leave required (now (last .entry)) p (drop at (now (list .entry))) ⌝ }
-{
-    if list.len() <= at {
-        if required {
-            return last.len() as u32 + 1;
-        }
-        return 0;
-    }
-    let q = list[at];
-    let d = q / 2;
-    if p < d {
-        if required {
-            return d;
-        }
-        return 0;
-    }
-    if required {
-        return 0;
-    }
-    let reached = reach(last, q);
-    reached + 1
+    stays(at, made, false, last.len() as u32)
 }

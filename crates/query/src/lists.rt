@@ -1,8 +1,8 @@
 // The run of an accepted query: its lists are looked up, and the cursors go along them.
 ghost use mathlib.Core.Path.{_≡_};
 ghost use mathlib.Core.Bool.{false};
-ghost use mathlib.Core.List.{map};
-ghost use Prim.Native.Nat.{_≤_};
+ghost use mathlib.Core.List.{map, _++_};
+ghost use Prim.Native.Nat.{_+_, _≤_};
 ghost use lib.ListN.{length, take};
 ghost use Rattle.laws.specs.Search.{any};
 ghost use Rattle.plant.specs.Plant.{plant};
@@ -14,23 +14,25 @@ use crate::run::Listing;
 use crate::run::run;
 use index::list_of;
 
-// Puts the list of each of some terms to the front of `lists`, in the order of the terms.
+// Puts the list of each of some terms into `lists`, in the order of the terms, from index `first` on.
 fn gather<'a>(
     terms: &[u16],
     starts: &[u32],
     postings: &'a [u32],
     named: &[u32],
-    lists: &mut [&'a [u32]; 8],
+    lists: &mut [&'a [u32]; 16],
+    first: usize,
 )
-    requires { ⌜ (length (now named) ≤ 8) × (length (now lists) ≡ 8) ⌝ }
+    requires { ⌜ (first + length (now named) ≤ 16) × (length (now lists) ≡ 16) ⌝ }
     requires { ⌜ any (count (index (now terms) (now starts) (now postings))) (misplaced-term (index (now terms) (now starts) (now postings))) ≡ false ⌝ }
-    ensures { λ _. ⌜ length (now (lists .exit)) ≡ 8 ⌝ }
-    ensures { λ _. ⌜ take (length (now (named .entry))) (map now (now (lists .exit))) ≡ map (list-of (index (now (terms .entry)) (now (starts .entry)) (now (postings .entry)))) (now (named .entry)) ⌝ }
+    ensures { λ _. ⌜ length (now (lists .exit)) ≡ 16 ⌝ }
+    ensures { λ _. ⌜ take (first + length (now (named .entry))) (map now (now (lists .exit))) ≡ take first (map now (now (lists .entry))) ++ map (list-of (index (now (terms .entry)) (now (starts .entry)) (now (postings .entry)))) (now (named .entry)) ⌝ }
 {
     let mut i = 0;
     while i < named.len() {
         let list = list_of(terms, starts, postings, named[i]);
-        lists[i] = list;
+        let at = first + i;
+        lists[at] = list;
         i += 1;
     }
 }
@@ -50,33 +52,35 @@ pub fn answered(
     ensures { λ r. ⌜ Ends (steps (plant (now (last .entry)) (now (root .entry)) (now (level .entry))) (index (now (terms .entry)) (now (starts .entry)) (now (postings .entry))) query (query .budget)) (now (out .entry)) (now (out .exit)) r ⌝ }
 {
     let none = &postings[0..0];
-    let mut required = [none; 8];
-    let mut forbidden = [none; 8];
-    let required_terms = query.required;
+    let mut lists = [none; 16];
+    let required = query.required;
     let required_count = query.required_count;
-    let forbidden_terms = query.forbidden;
+    let forbidden = query.forbidden;
     let forbidden_count = query.forbidden_count;
     gather(
         terms,
         starts,
         postings,
-        &required_terms[..required_count],
-        &mut required,
+        &required[..required_count],
+        &mut lists,
+        0,
     );
     gather(
         terms,
         starts,
         postings,
-        &forbidden_terms[..forbidden_count],
-        &mut forbidden,
+        &forbidden[..forbidden_count],
+        &mut lists,
+        required_count,
     );
+    let count = required_count + forbidden_count;
     let levels = query.levels;
     run(
         last,
         root,
         level,
-        &required[..required_count],
-        &forbidden[..forbidden_count],
+        &lists[..count],
+        required_count,
         levels,
         query.start,
         query.budget,

@@ -9,10 +9,12 @@ use Rattle.index.proofs.postings.reach_of.Tie as tie
 returns : tie.Need-returns
 returns c =
     let d = c .before .before .before in
-    c .wide .ensures ∙ reach-shared (now (d .before .before .args .last)) _ _ (c .before .before .if1 .taken) (d .device-of .ensures)
+    c .before .wide .ensures ∙ reach-shared (now (d .before .before .args .last)) _ _ (c .if1 .taken) (d .device-of .ensures)
 
 returns-2 : tie.Need-returns-2
-returns-2 c = c .before .device-of .ensures ∙ reach-private (now (c .before .before .before .args .last)) _ (c .if1 .left)
+returns-2 c =
+    let d = c .before .before .before in
+    d .device-of .ensures ∙ reach-private (now (d .before .before .args .last)) _ (c .if1 .left)
 
 pub reach-of-spec : {M : Type 1} → statement M
 reach-of-spec =

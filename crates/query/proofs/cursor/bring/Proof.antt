@@ -2,7 +2,7 @@
 use Prim.Native.Nat.{_-_}
 use lib.ListN.{length}
 use borrow.Author.Needs.{needs}
-use Rattle.query.proofs.BringByIndex.{Ahead, ahead-start, ahead-ends, ahead-device, ahead-stays, ahead-spent, ahead-moves}
+use Rattle.query.proofs.BringByIndex.{Ahead, ahead-start, ahead-ends, ahead-device, ahead-past, ahead-carries, ahead-spent, ahead-moves}
 use Rattle.query.proofs.cursor.bring.Statement.{statement}
 use Rattle.query.proofs.cursor.bring.Tie as tie
 
@@ -19,13 +19,20 @@ bring-spec =
     (λ c. search (needs, ahead-start))
     (λ c. search needs)
     (λ c. search needs)
+    (λ c. search needs)
+    (λ c κs. search needs)
+    (λ c. search (needs, ahead-past))
     (λ c κs. search (needs, ahead-device))
-    (λ c. search (needs, ahead-stays))
-    (λ c. search (needs, ahead-spent))
+    (λ c κs. search needs)
+    (λ c. search (needs, ahead-carries))
+    (λ c. let t = c .before .before .before .before .before in let s = t .before .before .before .before .before in
+    ahead-spent (t .before .loop .inv) (s .pre .0) (s .pre .2) (s .pre .1) (t .loop-test .taken) (c .before .before .before .if1 .left) (c .before .before .reach .ensures .0) (c .before .if2 .left) (c .if3 .taken))
     (λ c κs. search (needs, ahead-device))
     (λ c. search needs)
     (λ c. search needs)
     (λ c κs. search needs)
     (λ c. search needs)
     (λ c. search (needs, ahead-moves))
+    (λ c. search needs)
+    (λ c κs. search needs)
     (λ c. search (needs, ahead-ends)))

@@ -10,5 +10,5 @@ reach-spec =
     tie.close
     (tie.spec
     (λ c κs. search needs)
-    (λ c. (simp (eq-eqb _ _ (c .before .if1 .taken)) (c .entry-of .ensures .0), omega arith))
+    (λ c. (simp (eq-eqb _ _ (c .if1 .taken)) (c .before .entry-of .ensures .0), omega arith))
     (λ c. (simp (ne-eqb _ _ (c .if1 .left)), omega arith)))

@@ -2,7 +2,7 @@
 use Prim.Native.Nat.{_≤_}
 use Rattle.index.specs.Index.{Index, index}
 use Rattle.plant.specs.Plant.{Plant, plant}
-use Rattle.query.proofs.Answers.{Admitted, admitted, lists-fit, run-steps}
+use Rattle.query.proofs.Answers.{Admitted, admitted, lists-fit, begins, run-steps}
 use Rattle.query.proofs.lists.answered.Statement.{statement}
 use Rattle.query.proofs.lists.answered.Tie as tie
 use Rattle.query.specs.Query.{required, forbidden}
@@ -45,23 +45,26 @@ answered-spec =
     (λ c κs. let k = counts (c .before .before .before .before .before .before .before .before .before .before .before .before) in let r = ready (c .before .before .before .before .before .before .before .before .before .before .before .before) in ((omega arith, refl), r .terms))
     (λ c. fit (c .before .before .before .before .before .before .before .before .before .before .before .before .before) .1)
     (λ c. counts (c .before .before .before .before .before .before .before .before .before .before .before .before .before .before) .1)
-    (λ c κs. let k = counts (c .before .before .before .before .before .before .before .before .before .before .before .before .before .before .before) in let r = ready (c .before .before .before .before .before .before .before .before .before .before .before .before .before .before .before) in ((omega arith, refl), r .terms))
-    (λ c. let r = ready (c .before .before .before .before .before .before .before .before .before .before .before .before .before .before .before .before) in let l = c .before .before .before .gather .ensures .0 in omega arith)
-    (λ c. let r = ready (c .before .before .before .before .before .before .before .before .before .before .before .before .before .before .before .before .before) in let l = c .before .before .before .before .gather .ensures .0 in simp length-take (omega arith))
-    (λ c. let r = ready (c .before .before .before .before .before .before .before .before .before .before .before .before .before .before .before .before .before) in let l = c .before .gather2 .ensures .0 in omega arith)
-    (λ c. let r = ready (c .before .before .before .before .before .before .before .before .before .before .before .before .before .before .before .before .before .before) in let l = c .before .before .gather2 .ensures .0 in simp length-take (omega arith))
-    (λ c κs. let s = c .before .before .before .before .before .before .before .before .before .before .before .before .before .before .before .before .before .before .before in
+    (λ c κs. let k = counts (c .before .before .before .before .before .before .before .before .before .before .before .before .before .before .before) in let r = ready (c .before .before .before .before .before .before .before .before .before .before .before .before .before .before .before) in ((omega arith, c .before .before .gather .ensures .0), r .terms))
+    (λ c. let r = ready (c .before .before .before .before .before .before .before .before .before .before .before .before .before .before .before .before) in record { fits = omega arith })
+    (λ c. let r = ready (c .before .before .before .before .before .before .before .before .before .before .before .before .before .before .before .before) in let l = c .gather2 .ensures .0 in omega arith)
+    (λ c. let r = ready (c .before .before .before .before .before .before .before .before .before .before .before .before .before .before .before .before .before) in let l = c .before .gather2 .ensures .0 in simp length-take (omega arith))
+    (λ c κs. let s = c .before .before .before .before .before .before .before .before .before .before .before .before .before .before .before .before .before .before in
     let r = ready s in
     let k = counts s in
+    let l = c .before .before .gather2 .ensures .0 in
     let q = s .args .query in (
       (r .tables, r .levels, r .roomy, r .start),
       (
-        lists-fit r (required q) (c .before .before .before .before .before .before .gather .last .1 .1 .1 .1 .0) (r .few-required) (k .0) (c .before .before .before .before .before .before .gather .ensures .1),
-        lists-fit r (forbidden q) (c .before .before .before .gather2 .last .1 .1 .1 .1 .0) (r .few-forbidden) (k .1) (c .before .before .before .gather2 .ensures .1),
+        simp length-take (omega arith),
+        lists-fit (postings s) (required q) (forbidden q) (c .before .before .before .before .before .gather .last .1 .1 .1 .1 .0) (c .before .before .gather2 .last .1 .1 .1 .1 .0) (k .0) (k .1)
+            (c .before .before .before .before .before .gather .ensures .1) (c .before .before .gather2 .ensures .1) r (r .few-required) (r .few-forbidden),
       ),
     ))
     (λ c. search needs)
-    (λ c. let s = c .before .before .before .before .before .before .before .before .before .before .before .before .before .before .before .before .before .before .before .before .before .before in
+    (λ c. let s = c .before .before .before .before .before .before .before .before .before .before .before .before .before .before .before .before .before .before .before .before .before in
     let k = counts s in
-    run-steps (tables s) (postings s) (s .args .query) (c .before .before .before .before .before .before .before .before .before .gather .last .1 .1 .1 .1 .0) (c .before .before .before .before .before .before .gather2 .last .1 .1 .1 .1 .0)
-    (k .0) (c .before .before .before .before .before .before .before .before .before .gather .ensures .1) (k .1) (c .before .before .before .before .before .before .gather2 .ensures .1) (c .before .before .run .ensures)))
+    let q = s .args .query in
+    run-steps (tables s) (postings s) q
+    (begins (postings s) (required q) (forbidden q) (c .before .before .before .before .before .before .before .before .gather .last .1 .1 .1 .1 .0) (c .before .before .before .before .before .gather2 .last .1 .1 .1 .1 .0) (k .0) (k .1)
+    (c .before .before .before .before .before .before .before .before .gather .ensures .1) (c .before .before .before .before .before .gather2 .ensures .1) (q .start)) (c .before .before .run .ensures)))

@@ -8,10 +8,10 @@ use borrow.Author.Needs.{needs}
 use lib.ListN.{length}
 
 abbrev Inv-loop : tie.InvT-loop
-Inv-loop terms starts postings named lists₀ i₀ lists i = Gathered (index terms starts postings) named lists i
+Inv-loop terms starts postings named lists₀ first i₀ lists i = Gathered (index terms starts postings) named first lists₀ lists i
 
 abbrev μ-loop : tie.MeasureT-loop
-μ-loop terms starts postings named lists₀ i₀ lists i = length named - i
+μ-loop terms starts postings named lists₀ first i₀ lists i = length named - i
 
 pub gather-spec : {M : Type 1} → statement M
 gather-spec =
@@ -23,6 +23,7 @@ gather-spec =
     (λ c. search needs)
     (λ c. search needs)
     (λ c κs. search needs)
+    (λ c. search needs)
     (λ c. search needs)
     (λ c. search needs)
     (λ c. search needs)
