@@ -5,15 +5,18 @@ fn device(posting: u32) -> usize {
     (posting >> 1) as usize
 }
 
+/// The last device that a posting carries its term to. Both are read before one is chosen, so that no branch depends on it.
 fn reach(last: &[u16], posting: u32) -> usize {
+    let end = last[device(posting) - 1] as usize;
     if posting & 1 == 1 {
-        last[device(posting) - 1] as usize
+        end
     } else {
         device(posting)
     }
 }
 
 /// Refusals 1 to 9, each in one pass.
+#[inline(never)]
 pub fn check(t: &Tables) -> u32 {
     let n = t.last.len();
     if t.root.len() != n || t.level.len() != n || n > 65_535 {
@@ -129,25 +132,39 @@ fn seek(list: &[u32], from: usize, target: usize) -> usize {
     low
 }
 
+#[derive(Clone, Copy)]
 struct Cursor<'a> {
     list: &'a [u32],
     at: usize,
 }
 
+/// Of a cursor brought to a position: whether its posting carries to it, and the last position up to which that stays so with
+/// no move.
+struct Stretch {
+    carries: bool,
+    to: usize,
+}
+
 impl Cursor<'_> {
-    /// Brings the cursor to position p; false: the next move would exceed the budget.
-    fn bring(&mut self, t: &Tables, p: usize, moves: &mut u32, budget: u32) -> bool {
+    /// Brings the cursor to position p; none: the next move would exceed the budget.
+    #[inline(always)]
+    fn bring(&mut self, t: &Tables, p: usize, moves: &mut u32, budget: u32) -> Option<Stretch> {
         while let Some(&posting) = self.list.get(self.at) {
-            if p < device(posting) || p <= reach(&t.last, posting) {
-                return true;
+            let d = device(posting);
+            if p < d {
+                return Some(Stretch { carries: false, to: d - 1 });
+            }
+            let end = t.last[d - 1] as usize;
+            let reach = if posting & 1 == 1 { end } else { d };
+            if p <= reach {
+                return Some(Stretch { carries: true, to: reach });
             }
             if *moves == budget {
-                return false;
+                return None;
             }
             *moves += 1;
             let root = t.root[p - 1] as usize;
-            let end = t.last[device(posting) - 1] as usize;
-            let target = if device(posting) < root {
+            let target = if d < root {
                 root
             } else if end < p {
                 end + 1
@@ -156,7 +173,7 @@ impl Cursor<'_> {
             };
             self.at = seek(self.list, self.at + 1, target);
         }
-        true
+        Some(Stretch { carries: false, to: t.last.len() })
     }
 }
 
@@ -188,46 +205,63 @@ pub fn search(t: &Tables, q: &Query, answer: &mut [u16]) -> Answer {
     steps(t, q, answer)
 }
 
-/// The query's own refusals and the steps, for tables that were checked.
+/// Cursors of terms, each on the first posting of its list; the rest of the eight are on empty lists.
+fn cursors<'a>(t: &'a Tables, terms: &[u32]) -> [Cursor<'a>; 8] {
+    let mut cursors = [Cursor { list: &[], at: 0 }; 8];
+    for (cursor, &term) in cursors.iter_mut().zip(terms) {
+        cursor.list = list_of(t, term);
+    }
+    cursors
+}
+
+/// The query's own refusals and the steps, for tables that were checked. Where every cursor passes, so do all positions up to
+/// the first at which one has to move or changes: they are listed at once.
+#[inline(never)]
 pub fn steps(t: &Tables, q: &Query, answer: &mut [u16]) -> Answer {
     let refusal = refusal(t, q, answer.len());
     if refusal != 0 {
         return Answer { refusal, ..Answer::default() };
     }
-    let cursors = |terms: &[u32]| -> [Cursor; 8] {
-        std::array::from_fn(|i| Cursor { list: terms.get(i).map_or(&[], |&x| list_of(t, x)), at: 0 })
-    };
-    let (mut required, mut forbidden) = (cursors(&q.required), cursors(&q.forbidden));
+    let (mut required, mut forbidden) = (cursors(t, &q.required), cursors(t, &q.forbidden));
     let required = &mut required[..q.required.len()];
     let forbidden = &mut forbidden[..q.forbidden.len()];
     let n = t.last.len();
     let (mut p, mut moves, mut count) = (q.start as usize, 0, 0);
     'rounds: while p <= n {
+        let mut until = n;
         for cursor in required.iter_mut() {
-            if !cursor.bring(t, p, &mut moves, q.budget) {
-                break 'rounds;
-            }
-            let c = cursor.list.get(cursor.at).map_or(n + 1, |&x| device(x));
-            if p < c {
-                p = c;
+            let Some(stretch) = cursor.bring(t, p, &mut moves, q.budget) else { break 'rounds };
+            if !stretch.carries {
+                p = stretch.to + 1;
                 continue 'rounds;
             }
+            until = until.min(stretch.to);
         }
         for cursor in forbidden.iter_mut() {
-            if !cursor.bring(t, p, &mut moves, q.budget) {
-                break 'rounds;
-            }
-            if let Some(&posting) = cursor.list.get(cursor.at).filter(|&&x| device(x) <= p) {
-                p = reach(&t.last, posting) + 1;
+            let Some(stretch) = cursor.bring(t, p, &mut moves, q.budget) else { break 'rounds };
+            if stretch.carries {
+                p = stretch.to + 1;
                 continue 'rounds;
             }
+            until = until.min(stretch.to);
         }
-        let code = t.level[p - 1] as u32;
-        if q.levels.is_none_or(|(low, high)| low <= code && code <= high) {
-            answer[count] = p as u16;
-            count += 1;
-        }
-        p += 1;
+        count = fill(&t.level, q.levels, p, until, answer, count);
+        p = until + 1;
     }
     Answer { refusal: 0, count: count as u32, position: p as u32, moves }
+}
+
+/// Lists the positions from p to `until` whose level code is wanted, after the first `count` entries.
+fn fill(level: &[u8], levels: Option<(u32, u32)>, p: usize, until: usize, answer: &mut [u16], mut count: usize) -> usize {
+    for d in p..until + 1 {
+        let wanted = match levels {
+            None => true,
+            Some((low, high)) => (low..=high).contains(&(level[d - 1] as u32)),
+        };
+        if wanted {
+            answer[count] = d as u16;
+            count += 1;
+        }
+    }
+    count
 }

@@ -1,7 +1,11 @@
 //! The page that a run writes.
 use crate::plants::Size;
-use crate::{Measured, Row, Times};
+use crate::time::Times;
+use crate::{Growth, Measured, Row, Skip};
 use std::fmt::Write;
+
+/// The most that a call may take, in times of the plain one.
+const MOST: f64 = 1.1;
 
 /// A number with commas.
 fn commas(n: usize) -> String {
@@ -24,93 +28,154 @@ fn size(Size(n, terms, postings): Size) -> String {
     format!("{} devices, {} terms, {} postings", commas(n), commas(terms), commas(postings))
 }
 
-fn mean(rows: &[&Row]) -> Times {
-    let mean = |field: fn(&Times) -> f64| rows.iter().map(|r| field(&r.times)).sum::<f64>() / rows.len() as f64;
-    Times {
-        check: mean(|t| t.check),
-        search: mean(|t| t.search),
-        plain_check: mean(|t| t.plain_check),
-        plain_search: mean(|t| t.plain_search),
-        named_check: mean(|t| t.named_check),
-        named_search: mean(|t| t.named_search),
-        plain_steps: mean(|t| t.plain_steps),
-        unshared: mean(|t| t.unshared),
-        roaring: mean(|t| t.roaring),
-        sqlite: mean(|t| t.sqlite),
+/// A table's head: its columns, numbers to the right.
+fn head(columns: &[&str]) -> String {
+    format!("\n| {} |\n|---|{}\n", columns.join(" | "), "--:|".repeat(columns.len() - 1))
+}
+
+/// The mean of the kinds whose terms were chosen so; of all where that is left open.
+fn mean(m: &Measured, common: Option<bool>) -> Times {
+    let rows = m.rows.iter().filter(|r| common.is_none_or(|c| c == r.common));
+    Times::mean(&rows.map(|r| r.times).collect::<Vec<_>>())
+}
+
+/// One plant's figures: proved against plain, then each kind of query in all ways.
+fn figures(m: &Measured) -> String {
+    let mut out = format!("\n### At {}: {}\n", m.name, size(m.size));
+    out += &head(&["", "plain µs", "proved µs", "proved / plain"]);
+    let (all, common, any) = (mean(m, None), mean(m, Some(true)), mean(m, Some(false)));
+    for (name, plain, proved) in [
+        ("the check alone", m.plain_check, m.check),
+        ("the call whole, all queries", all.plain_call, all.call),
+        ("the steps alone, common terms", common.plain_steps, common.steps),
+        ("the steps alone, terms equally likely", any.plain_steps, any.steps),
+    ] {
+        writeln!(out, "| {name} | {} | {} | **{:.2}** |", micro(plain), micro(proved), proved / plain).unwrap();
     }
+    for common in [true, false] {
+        let how = if common { "Common terms: each is as likely as its list is long" } else { "Terms all equally likely" };
+        writeln!(out, "\n{how}.").unwrap();
+        out += &head(&["query", "call, plain µs", "proved", "steps, plain µs", "proved", "unshared", "CRoaring", "SQLite"]);
+        for row in m.rows.iter().filter(|r| r.common == common) {
+            out += &line(row.kind.0, &row.times);
+        }
+        out += &line("all", &mean(m, Some(common)));
+    }
+    out += "\nA call of the steps again, right after the first and with no check between:\n";
+    out += &head(&["terms", "plain µs", "CRoaring µs", "CRoaring / plain"]);
+    for (name, t) in [("common", common), ("any", any)] {
+        let ratio = t.roaring_again / t.plain_again;
+        writeln!(out, "| {name} | {} | {} | {ratio:.2} |", micro(t.plain_again), micro(t.roaring_again)).unwrap();
+    }
+    out
 }
 
 fn line(name: &str, t: &Times) -> String {
     let ratio = |seconds: f64| format!("{:.2}", seconds / t.plain_steps);
-    let call = format!("{} | {:.2}", micro(t.plain_search), t.search / t.plain_search);
-    let steps = format!("{} | {}", micro(t.plain_steps), ratio(t.named_search - t.named_check));
-    let peers = [t.unshared, t.roaring, t.sqlite].map(ratio).join(" | ");
-    format!("| {name} | {call} | {steps} | {peers} |\n")
+    let call = format!("{} | {:.2}", micro(t.plain_call), t.call / t.plain_call);
+    let steps = [t.steps, t.unshared, t.roaring, t.sqlite].map(ratio).join(" | ");
+    format!("| {name} | {call} | {} | {steps} |\n", micro(t.plain_steps))
 }
 
-/// One plant's figures: each row a kind of query, each column a ratio.
-pub fn table(m: &Measured) -> String {
-    let mut out = String::new();
-    let all = mean(&m.kinds.iter().collect::<Vec<_>>());
-    writeln!(out, "### {}\n", size(m.size)).unwrap();
-    let (check, plain_check) = (micro(all.check), micro(all.plain_check));
-    let ratio = all.check / all.plain_check;
-    writeln!(out, "The check alone: {check} µs proved, {plain_check} µs plain, ratio {ratio:.2}.").unwrap();
-    for common in [true, false] {
-        let rows: Vec<&Row> = m.kinds.iter().filter(|r| r.common == common).collect();
-        let how = if common { "Common terms, each as likely as its list is long" } else { "Terms all equally likely" };
-        writeln!(out, "\n{how}:\n").unwrap();
-        out += "| query | call, plain µs | call | steps, plain µs | steps | unshared | CRoaring | SQLite |\n|---|---|---|---|---|---|---|---|\n";
-        for row in &rows {
-            out += &line(row.kind.0, &row.times);
-        }
-        out += &line("all", &mean(&rows));
+fn terms(common: bool) -> &'static str {
+    if common {
+        "common"
+    } else {
+        "any"
     }
+}
+
+/// The goals of one plant, each with its ratio and whether it was met.
+fn goals(m: &Measured) -> String {
+    let mut out = format!("\n### Goals at {}: {}\n", m.name, size(m.size));
+    let steps = ["steps, proved / CRoaring", "steps, proved / CRoaring again", "steps, proved / SQLite"];
+    out += &head(&[&["query", "terms", "call, proved / plain"], &steps[..]].concat());
+    for Row { kind, common, times, .. } in &m.rows {
+        out += &goal(kind.0, terms(*common), times);
+    }
+    out += &goal("all", "common", &mean(m, Some(true)));
+    out += &goal("all", "any", &mean(m, Some(false)));
+    out += &goal("**all**", "**both**", &mean(m, None));
+    out
+}
+
+fn goal(query: &str, terms: &str, t: &Times) -> String {
+    let against = |peer: f64| match t.steps / peer {
+        r if r <= 0.0 => String::from("lost in noise"),
+        r if r < 1.0 => format!("{r:.2} ahead"),
+        r => format!("{r:.2} **behind**"),
+    };
+    let call = t.call / t.plain_call;
+    let met = if call <= MOST { "met" } else { "**missed**" };
+    let steps = [t.roaring, t.roaring_again, t.sqlite].map(against).join(" | ");
+    format!("| {query} | {terms} | {call:.2} {met} | {steps} |\n")
+}
+
+/// How the check grows with the tables, and the steps with what their moves skip.
+fn growing(growth: &[Growth], skips: &[Skip]) -> String {
+    let mut out = String::from("\n### Goals for growth\n");
+    out += &head(&["", "grew", "proved time grew", "plain time grew"]);
+    let (a, b) = (&growth[0], &growth[growth.len() - 1]);
+    let grew = (b.size.0 + b.size.2) as f64 / (a.size.0 + a.size.2) as f64;
+    let times = [grew, b.proved / a.proved, b.plain / a.plain].map(|x| format!("{x:.1} times")).join(" | ");
+    writeln!(out, "| the check, as the tables grow | {times} |").unwrap();
+    let (a, b) = (&skips[0], &skips[skips.len() - 1]);
+    let grew = b.long as f64 / a.long as f64;
+    let times = [grew, b.proved / a.proved, b.plain / a.plain].map(|x| format!("{x:.1} times")).join(" | ");
+    writeln!(out, "| the steps, as the list that moves skip grows | {times} |").unwrap();
     out
 }
 
 /// Document 000's figures: what sharing saves.
 fn sharing(m: &Measured) -> String {
-    let mut out = String::new();
-    let percent = |a: f64, b: f64| format!("{:.0}%", 100.0 * a / b);
-    writeln!(
-        out,
-        "{}: {} postings when unshared, so sharing keeps {} of them.\n",
-        size(m.size),
-        commas(m.unshared_postings),
-        percent(m.size.2 as f64, m.unshared_postings as f64)
-    )
-    .unwrap();
-    writeln!(out, "| query | devices listed | moves, shared | moves, unshared | shared of unshared |\n|---|---|---|---|---|")
-        .unwrap();
-    for Row { kind, moves, .. } in m.kinds.iter().filter(|r| r.common) {
-        let ratio = percent(moves.shared as f64, moves.unshared as f64);
-        let numbers = [moves.listed, moves.shared, moves.unshared].map(|n| commas(n as usize)).join(" | ");
-        writeln!(out, "| {} | {numbers} | {ratio} |", kind.0).unwrap();
+    let percent = |a: usize, b: usize| format!("{:.0}%", 100.0 * a as f64 / b as f64);
+    let mut out = format!("\n### Sharing at {}: {}\n", m.name, size(m.size));
+    let kept = percent(m.size.2, m.unshared_postings);
+    writeln!(out, "\nUnshared there are {} postings: shared are **{kept}** of them.", commas(m.unshared_postings)).unwrap();
+    out += &head(&["query", "terms", "queries", "devices listed", "moves, shared", "moves, unshared", "shared of unshared"]);
+    for Row { kind, common, queries, moves, .. } in &m.rows {
+        let numbers = [*queries as u64, moves.listed, moves.shared, moves.unshared].map(|n| commas(n as usize)).join(" | ");
+        let ratio = percent(moves.shared as usize, moves.unshared as usize);
+        writeln!(out, "| {} | {} | {numbers} | {ratio} |", kind.0, terms(*common)).unwrap();
     }
     out
 }
 
-pub fn whole(measured: &[Measured], growth: &[(Size, f64, f64)], skips: &[(usize, u32, f64, f64)]) -> String {
-    let mut out = String::from(include_str!("../before.md"));
-    for m in measured {
-        writeln!(out, "\n{}", table(m).trim_end()).unwrap();
-    }
-    out += "\n## The check grows with the tables\n\n| tables | proved µs | plain µs | proved ns for each device and posting |\n|---|---|---|---|\n";
-    for (s, proved, plain) in growth {
+fn tables_grow(growth: &[Growth]) -> String {
+    let mut out = String::from("\n## The check grows with the tables\n");
+    out += &head(&["tables", "plain µs", "proved µs", "proved / plain", "proved, ns for each device and posting"]);
+    for Growth { size: s, proved, plain } in growth {
         let each = proved * 1e9 / (s.0 + s.2) as f64;
-        writeln!(out, "| {} | {} | {} | {each:.2} |", size(*s), micro(*proved), micro(*plain)).unwrap();
+        let times = format!("{} | {} | {:.2}", micro(*plain), micro(*proved), proved / plain);
+        writeln!(out, "| {} | {times} | {each:.2} |", size(*s)).unwrap();
     }
-    out += "\n## What a move skips costs next to nothing\n\nA term on 64 devices and one on more and more of 65,535, both required: the moves stay few, and what each skips grows.\n\n";
-    out += "| postings of the long list | moves | steps, proved µs | steps, plain µs |\n|---|---|---|---|\n";
-    for (long, moves, proved, plain) in skips {
-        writeln!(out, "| {} | {moves} | {} | {} |", commas(*long), micro(*proved), micro(*plain)).unwrap();
+    out
+}
+
+fn moves_skip(skips: &[Skip]) -> String {
+    let mut out = String::from("\n## What a move skips\n\n");
+    out += "Of 65,535 devices a term is on 64 and another on more and more, and both are required: ";
+    out += "what each move skips grows, and how many moves there are does not.\n";
+    out += &head(&["postings of the long list", "moves", "steps, plain µs", "steps, proved µs", "proved / plain"]);
+    for Skip { long, moves, proved, plain } in skips {
+        let times = format!("{} | {} | {:.2}", micro(*plain), micro(*proved), proved / plain);
+        writeln!(out, "| {} | {moves} | {times} |", commas(*long)).unwrap();
     }
-    out += "\n## Sharing: the figures of document 000\n\nMoves unshared are those of an ordinary zig-zag join over the lists written out.\n";
-    for m in measured {
-        writeln!(out, "\n{}", sharing(m).trim_end()).unwrap();
-    }
+    out
+}
+
+pub fn whole(measured: &[Measured], growth: &[Growth], skips: &[Skip]) -> String {
+    let all = |each: fn(&Measured) -> String| measured.iter().map(each).collect::<String>();
+    let mut out = String::from(include_str!("../before.md"));
+    out += &all(figures);
+    out += &tables_grow(growth);
+    out += &moves_skip(skips);
+    out += "\n## Sharing: the figures of document 000\n\n";
+    out += "Unshared, every device that carries a term has a posting of its own, and the moves are those of an ordinary zig-zag ";
+    out += "join. Each row has the moves of all its queries together.\n";
+    out += &all(sharing);
     out += "\n";
-    out += include_str!("../after.md");
+    let goals = all(goals) + &growing(growth, skips);
+    out += &include_str!("../after.md").replace("{goals}", goals.trim());
     out
 }

@@ -10,7 +10,7 @@ struct Handle {
 }
 
 extern "C" {
-    fn sqlite3_open(path: *const c_char, db: *mut *mut Handle) -> c_int;
+    fn sqlite3_open_v2(path: *const c_char, db: *mut *mut Handle, flags: c_int, vfs: *const c_char) -> c_int;
     fn sqlite3_close(db: *mut Handle) -> c_int;
     fn sqlite3_exec(
         db: *mut Handle, sql: *const c_char, each: *const c_void, with: *const c_void, error: *mut *mut c_char,
@@ -27,28 +27,33 @@ extern "C" {
 
 const ROW: c_int = 100;
 
+/// To read and write, to create, and without locks: one thread alone uses it.
+const FLAGS: c_int = 0x2 | 0x4 | 0x8000;
+
 /// How many required terms, how many forbidden, and whether there is a level range.
 type Shape = (usize, usize, bool);
 
 pub struct Database {
     db: *mut Handle,
     statements: HashMap<Shape, *mut Handle>,
+    /// how many devices carry each term, by its number
+    sizes: Vec<usize>,
 }
 
 impl Database {
     pub fn new(unshared: &Unshared, level: &[u8]) -> Database {
         let mut db = std::ptr::null_mut();
         let path = CString::new(":memory:").unwrap();
-        assert_eq!(unsafe { sqlite3_open(path.as_ptr(), &mut db) }, 0);
-        let database = Database { db, statements: HashMap::new() };
+        assert_eq!(unsafe { sqlite3_open_v2(path.as_ptr(), &mut db, FLAGS, std::ptr::null()) }, 0);
+        let sizes = unshared.lists.iter().map(Vec::len).collect();
+        let database = Database { db, statements: HashMap::new(), sizes };
         database.run("CREATE TABLE device (number INTEGER PRIMARY KEY, level INTEGER NOT NULL)");
         database.run("CREATE TABLE carries (term INTEGER, device INTEGER, PRIMARY KEY (term, device)) WITHOUT ROWID");
         database.run("BEGIN");
         let devices = level.iter().enumerate().map(|(i, &code)| [i as i64 + 1, code as i64]);
         database.fill("INSERT INTO device VALUES (?1, ?2)", devices);
-        let mut terms: Vec<_> = unshared.lists.iter().collect();
-        terms.sort();
-        let rows = terms.iter().flat_map(|(&term, list)| list.iter().map(move |&d| [term as i64, d as i64]));
+        let terms = unshared.lists.iter().enumerate();
+        let rows = terms.flat_map(|(term, list)| list.iter().map(move |&d| [term as i64, d as i64]));
         database.fill("INSERT INTO carries VALUES (?1, ?2)", rows);
         database.run("COMMIT");
         database.run("ANALYZE");
@@ -100,15 +105,21 @@ impl Database {
         sql + " ORDER BY c1.device"
     }
 
+    /// The shortest required list is given first: from its devices the others are looked up.
     pub fn search(&mut self, q: &Query, answer: &mut [u16]) -> usize {
         let shape = (q.required.len(), q.forbidden.len(), q.levels.is_some());
-        if !self.statements.contains_key(&shape) {
-            let statement = self.prepare(&Database::sql(shape));
-            self.statements.insert(shape, statement);
-        }
-        let statement = self.statements[&shape];
+        let statement = match self.statements.get(&shape) {
+            Some(&statement) => statement,
+            None => {
+                let statement = self.prepare(&Database::sql(shape));
+                self.statements.insert(shape, statement);
+                statement
+            }
+        };
         let levels = q.levels.map(|(low, high)| [low, high]);
-        let values = q.required.iter().chain(levels.iter().flatten()).chain(&q.forbidden);
+        let mut required = q.required.clone();
+        required.sort_by_key(|&term| self.sizes[term as usize]);
+        let values = required.iter().chain(levels.iter().flatten()).chain(&q.forbidden);
         let mut count = 0;
         unsafe {
             for (i, &value) in values.enumerate() {

@@ -1,40 +1,48 @@
 //! Lists written out for every device that carries a term, and an ordinary join of them.
 use crate::paper::{device_of, Query, Tables};
-use std::collections::HashMap;
 
 pub struct Unshared {
-    pub lists: HashMap<u32, Vec<u16>>,
+    /// the list of each term, by its number; those of absent terms are empty
+    pub lists: Vec<Vec<u16>>,
     level: Vec<u8>,
 }
 
 impl Unshared {
     pub fn new(t: &Tables) -> Unshared {
-        let mut lists = HashMap::new();
+        let mut lists = vec![vec![]; 65_536];
         for &term in &t.terms {
-            let mut list = vec![];
+            let list = &mut lists[term as usize];
             for &posting in crate::plain::list_of(t, term as u32) {
                 let d = device_of(posting) as u16;
                 let end = if posting % 2 == 1 { t.last[d as usize - 1] } else { d };
                 list.extend(d..=end);
             }
-            lists.insert(term as u32, list);
         }
         Unshared { lists, level: t.level.clone() }
     }
 
     pub fn postings(&self) -> usize {
-        self.lists.values().map(Vec::len).sum()
+        self.lists.iter().map(Vec::len).sum()
     }
 
-    fn list(&self, term: u32) -> &[u16] {
-        self.lists.get(&term).map_or(&[], Vec::as_slice)
+    pub fn list(&self, term: u32) -> &[u16] {
+        &self.lists[term as usize]
+    }
+
+    fn side(&self, terms: &[u32]) -> [&[u16]; 8] {
+        let mut lists: [&[u16]; 8] = [&[]; 8];
+        for (list, &term) in lists.iter_mut().zip(terms) {
+            *list = self.list(term);
+        }
+        lists
     }
 
     /// The devices of the shortest required list that gallop to a match in every other.
     pub fn search(&self, q: &Query, answer: &mut [u16]) -> usize {
-        let mut required: Vec<&[u16]> = q.required.iter().map(|&t| self.list(t)).collect();
+        let (mut required, mut forbidden) = (self.side(&q.required), self.side(&q.forbidden));
+        let required = &mut required[..q.required.len()];
+        let forbidden = &mut forbidden[..q.forbidden.len()];
         required.sort_by_key(|l| l.len());
-        let mut forbidden: Vec<&[u16]> = q.forbidden.iter().map(|&t| self.list(t)).collect();
         let (first, others) = required.split_first_mut().unwrap();
         let mut count = 0;
         for &d in first.iter() {
@@ -52,11 +60,10 @@ impl Unshared {
     /// The moves of an ordinary zig-zag join: one for each step of a cursor to the first posting at or beyond the position.
     pub fn moves(&self, q: &Query, n: usize) -> u64 {
         let mut moves = 0;
-        let side = |terms: &[u32]| -> Vec<&[u16]> { terms.iter().map(|&t| self.list(t)).collect() };
-        let (mut required, mut forbidden) = (side(&q.required), side(&q.forbidden));
+        let mut lists: Vec<&[u16]> = q.required.iter().chain(&q.forbidden).map(|&t| self.list(t)).collect();
         let mut p = 1;
         'rounds: while p <= n {
-            for (k, list) in required.iter_mut().chain(&mut forbidden).enumerate() {
+            for (k, list) in lists.iter_mut().enumerate() {
                 if list.first().is_some_and(|&c| (c as usize) < p) {
                     moves += 1;
                     *list = &list[list.partition_point(|&c| (c as usize) < p)..];

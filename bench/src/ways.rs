@@ -1,0 +1,187 @@
+//! All ways to answer a query over one plant: that they agree, and how long each takes.
+use crate::paper::{device_of, Query, Tables};
+use crate::time::{clock, seconds, Least, Rounds, Times};
+use crate::{ffi, plain, roaring, sqlite, unshared};
+use std::hint::black_box;
+
+pub struct Ways {
+    pub tables: Tables,
+    pub unshared: unshared::Unshared,
+    bitmaps: roaring::Bitmaps,
+    database: sqlite::Database,
+    answer: Vec<u16>,
+    /// what reading the clock adds to a time
+    clock: f64,
+    /// the check of the plant whole, proved and plain: no query changes it
+    check: Least,
+    plain_check: Least,
+}
+
+/// Moves of a query, with lists shared and unshared, and the devices listed.
+#[derive(Clone, Copy, Default)]
+pub struct Moves {
+    pub shared: u64,
+    pub unshared: u64,
+    pub listed: u64,
+}
+
+impl Moves {
+    pub fn add(&mut self, other: Moves) {
+        self.shared += other.shared;
+        self.unshared += other.unshared;
+        self.listed += other.listed;
+    }
+}
+
+/// The times of one query. `steps` is of the proved search: a search less the check before it.
+pub struct Taken {
+    call: Least,
+    plain_call: Least,
+    steps: Rounds,
+    plain_steps: Rounds,
+    unshared: Rounds,
+    roaring: Rounds,
+    sqlite: Rounds,
+    plain_again: Rounds,
+    roaring_again: Rounds,
+}
+
+impl Taken {
+    pub fn new() -> Taken {
+        let (call, plain_call) = (Least::NONE, Least::NONE);
+        let [steps, plain_steps, unshared, roaring, sqlite, plain_again, roaring_again] =
+            std::array::from_fn(|_| Rounds::default());
+        Taken { call, plain_call, steps, plain_steps, unshared, roaring, sqlite, plain_again, roaring_again }
+    }
+}
+
+/// The tables with every list emptied that the query does not name, and a branch kept only for roots and for devices that those
+/// lists have a posting at. The steps read the same entries, and the check is far shorter.
+pub fn few(t: &Tables, q: &Query) -> Tables {
+    let (root, level, terms) = (t.root.clone(), t.level.clone(), t.terms.clone());
+    let mut few = Tables { last: (1..=t.size() as u16).collect(), root, level, terms, ..Tables::default() };
+    for &term in &t.terms {
+        few.starts.push(few.postings.len() as u32);
+        if q.required.contains(&(term as u32)) || q.forbidden.contains(&(term as u32)) {
+            few.postings.extend(plain::list_of(t, term as u32));
+        }
+    }
+    for d in few.postings.iter().map(|&posting| device_of(posting)).chain(t.root.iter().map(|&r| r as usize)) {
+        few.last[d - 1] = t.last[d - 1];
+    }
+    few
+}
+
+impl Ways {
+    pub fn new(tables: Tables) -> Ways {
+        let unshared = unshared::Unshared::new(&tables);
+        let bitmaps = roaring::Bitmaps::new(&unshared, &tables.level);
+        let database = sqlite::Database::new(&unshared, &tables.level);
+        let answer = vec![0; tables.size()];
+        Ways { tables, unshared, bitmaps, database, answer, clock: clock(), check: Least::NONE, plain_check: Least::NONE }
+    }
+
+    /// Every way gives the same listing, and the proved search the same four numbers as the plain one.
+    pub fn agree(&mut self, q: &Query) -> Moves {
+        let n = self.tables.size();
+        let mut expected = vec![0; n];
+        let plain = plain::search(&self.tables, q, &mut expected);
+        assert_eq!((plain.refusal, plain.position), (0, n as u32 + 1));
+        let mut answer = vec![0; n];
+        assert_eq!(ffi::search(&self.tables, q, &mut answer), plain);
+        assert_eq!(answer, expected);
+        let few = few(&self.tables, q);
+        assert_eq!(plain::search(&few, q, &mut answer), plain);
+        assert_eq!(answer, expected);
+        agree_in_parts(&few, q, plain.moves);
+        let listing = &expected[..plain.count as usize];
+        let count = self.unshared.search(q, &mut answer);
+        assert_eq!(&answer[..count], listing);
+        let count = self.database.search(q, &mut answer);
+        assert_eq!(&answer[..count], listing);
+        assert!(self.bitmaps.search(q).iter().copied().eq(listing.iter().map(|&d| d as u32)));
+        Moves { shared: plain.moves as u64, unshared: self.unshared.moves(q, n), listed: plain.count as u64 }
+    }
+
+    /// One round of the calls that check the plant whole, for one query.
+    pub fn whole(&mut self, q: &Query, taken: &mut Taken) {
+        let t = &self.tables;
+        self.check.of(|| ffi::check(black_box(t)));
+        self.plain_check.of(|| plain::check(black_box(t)));
+        taken.call.of(|| ffi::search(t, black_box(q), &mut self.answer));
+        taken.plain_call.of(|| plain::search(t, black_box(q), &mut self.answer));
+    }
+
+    /// One round of the steps alone. A check goes before each way, as it does in the call: all meet the same caches. Plain and
+    /// CRoaring are called again with no check between.
+    pub fn steps(&mut self, few: &Tables, q: &Query, taken: &mut Taken) {
+        let check = || black_box(ffi::check(black_box(few)));
+        taken.steps.push(proved_steps(few, q, &mut self.answer, taken.steps.len()));
+        check();
+        taken.plain_steps.push(seconds(|| plain::steps(few, black_box(q), &mut self.answer)));
+        taken.plain_again.push(seconds(|| plain::steps(few, black_box(q), &mut self.answer)));
+        check();
+        taken.unshared.push(seconds(|| self.unshared.search(black_box(q), &mut self.answer)));
+        check();
+        taken.roaring.push(seconds(|| self.bitmaps.search(black_box(q)).len()));
+        taken.roaring_again.push(seconds(|| self.bitmaps.search(black_box(q)).len()));
+    }
+
+    /// One round of SQLite, apart since it is slow.
+    pub fn sqlite(&mut self, few: &Tables, q: &Query, taken: &mut Taken) {
+        black_box(ffi::check(black_box(few)));
+        taken.sqlite.push(seconds(|| self.database.search(black_box(q), &mut self.answer)));
+    }
+
+    /// The least seconds of a check of the plant whole, proved and plain.
+    pub fn checks(&self) -> (f64, f64) {
+        (self.check.0 - self.clock, self.plain_check.0 - self.clock)
+    }
+
+    /// Seconds of one query; where the clock was read around one call, without what that added.
+    pub fn times(&self, taken: &Taken) -> Times {
+        Times {
+            call: taken.call.0 - self.clock,
+            plain_call: taken.plain_call.0 - self.clock,
+            steps: taken.steps.median(),
+            plain_steps: taken.plain_steps.median() - self.clock,
+            unshared: taken.unshared.median() - self.clock,
+            roaring: taken.roaring.median() - self.clock,
+            sqlite: taken.sqlite.median() - self.clock,
+            plain_again: taken.plain_again.median() - self.clock,
+            roaring_again: taken.roaring_again.median() - self.clock,
+        }
+    }
+}
+
+/// Seconds of the steps of a proved search: a search less a check. A processor learns a check that is repeated, so a search goes
+/// before either, and they change places from round to round.
+pub fn proved_steps(t: &Tables, q: &Query, answer: &mut [u16], round: usize) -> f64 {
+    let (mut check, mut search) = (0.0, 0.0);
+    for half in [round, round + 1] {
+        black_box(ffi::search(t, black_box(q), answer));
+        if half % 2 == 0 {
+            check = seconds(|| ffi::check(black_box(t)));
+        } else {
+            search = seconds(|| ffi::search(t, black_box(q), answer));
+        }
+    }
+    search - check
+}
+
+/// The proved search and the plain one agree where a budget stops them, from several starts, and where they go on from there:
+/// in all four numbers and in every entry of the answer.
+fn agree_in_parts(t: &Tables, q: &Query, moves: u32) {
+    let n = t.size() as u32;
+    for budget in [0, 1, moves / 2, u32::MAX] {
+        let mut stopped = 1;
+        for start in [1, 2, n / 2, n, n + 1, 0] {
+            let q = Query { budget, start: if start == 0 { stopped } else { start }, ..q.clone() };
+            let (mut proved, mut plain) = (vec![7; t.size()], vec![7; t.size()]);
+            let numbers = plain::search(t, &q, &mut plain);
+            assert_eq!(ffi::search(t, &q, &mut proved), numbers);
+            assert_eq!(proved, plain);
+            stopped = if start == 1 { numbers.position } else { stopped };
+        }
+    }
+}
