@@ -62,8 +62,8 @@ fn print32(name: &[u8], table: &[u32]) {
     say(b"\n");
 }
 
-// Reads a text into tables of eight entries.
-fn outcome(name: &[u8], text: &[u8]) {
+// Reads a text into tables of eight entries, and prints those where they are to be shown.
+fn read(name: &[u8], text: &[u8], shown: bool) {
     let mut last: [u16; 8] = [9; 8];
     let mut root: [u16; 8] = [9; 8];
     let mut level: [u8; 8] = [9; 8];
@@ -80,32 +80,22 @@ fn outcome(name: &[u8], text: &[u8]) {
         &mut postings,
     );
     tell(name, r);
+    if shown {
+        print16(b"last", &last);
+        print16(b"root", &root);
+        print8(b"level", &level);
+        print16(b"terms", &terms);
+        print32(b"starts", &starts);
+        print32(b"postings", &postings);
+    }
 }
 
-// The same, and prints the tables.
+fn outcome(name: &[u8], text: &[u8]) {
+    read(name, text, false);
+}
+
 fn show(name: &[u8], text: &[u8]) {
-    let mut last: [u16; 8] = [9; 8];
-    let mut root: [u16; 8] = [9; 8];
-    let mut level: [u8; 8] = [9; 8];
-    let mut terms: [u16; 8] = [9; 8];
-    let mut starts: [u32; 8] = [9; 8];
-    let mut postings: [u32; 8] = [9; 8];
-    let r = plant_text::read(
-        text,
-        &mut last,
-        &mut root,
-        &mut level,
-        &mut terms,
-        &mut starts,
-        &mut postings,
-    );
-    tell(name, r);
-    print16(b"last", &last);
-    print16(b"root", &root);
-    print8(b"level", &level);
-    print16(b"terms", &terms);
-    print32(b"starts", &starts);
-    print32(b"postings", &postings);
+    read(name, text, true);
 }
 
 // Reads a text into device tables of 33 entries.

@@ -38,6 +38,7 @@ module _ {last root : List ℕ} {ls : List (List ℕ)} {k budget p m : ℕ} {at 
       first-passes : (n : ℕ) → run last root ok budget (suc n) (state k ls at p m) ≡ listing (ok p) p (run last root ok budget n (state k ls at′ (p + 1) (r .moves)))
       first-passes n = run-both last root budget p ok n k m (cursors at 0 ls) (enough at) (h .last) ∙ rw (a .same, z, f)
 
+      -- each position of the stretch passes, and no cursor or count of moves changes
       next-passes : (n q : ℕ) → p ≤ q → q ≤ r .to → run last root ok budget (suc n) (state k ls at′ q (r .moves))
           ≡ listing (ok q) q (run last root ok budget n (state k ls at′ (q + 1) (r .moves)))
       next-passes n q u v =
@@ -93,7 +94,7 @@ unfolding cursors
 cursors-first n i [] = refl
 cursors-first n i (l ∷ ls) = rw (first-of n i, cursors-first n (suc i) ls)
 
-pub valid-first : {last : List ℕ} {ls : List (List ℕ)} → Lists last ls → Valid last ls (replicate 16 0)
+valid-first : {last : List ℕ} {ls : List (List ℕ)} → Lists last ls → Valid last ls (replicate 16 0)
 valid-first v = record {
   long = refl;
   few = v .few;

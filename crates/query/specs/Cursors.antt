@@ -70,7 +70,7 @@ begin k ls start = record { position = start; required = take k ls; forbidden = 
 abbrev pub stretch : Bool → (ℕ → Bool) → ℕ → ℕ → List ℕ
 stretch passed ok p to = cond passed (matching ok (to + 1 - p) p) []
 
--- how many rounds that is
+-- how many rounds of the definition that is: one for each position that passed, or the one that begins again
 abbrev pub rounds : Bool → ℕ → ℕ → ℕ
 rounds passed p to = cond passed (to + 1 - p) 1
 

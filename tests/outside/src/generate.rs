@@ -465,8 +465,25 @@ pub const P: &[u8] = b"(plant\n(dev 120\n(dev 118\n(dev 255\n)\n)\n(dev 121\n(de
 /// query over P, tables of lengths 0 and 1.
 pub fn systematic() -> Vec<Case> {
     let p = crate::paper::read_plant(P, [9; 6]).unwrap();
-    let ask = b"(ask\n(need 7)\n(need 8)\n(not 9)\n(level 100 140)\n(from 1)\n(moves 50)\n)\n";
     let mut cases = vec![];
+    damaged_texts(&mut cases);
+    damaged_tables(&p, &mut cases);
+    for room in 0..8 {
+        for table in 0..6 {
+            let mut rooms = [9; 6];
+            rooms[table] = room;
+            cases.push(Case::Plant(P.to_vec(), rooms));
+        }
+        cases.push(Case::Search(p.clone(), Query::empty(), vec![5; room]));
+    }
+    small_queries(&p, &mut cases);
+    short_tables(&mut cases);
+    cases
+}
+
+/// P and an ask, cut at every byte, and with each byte changed.
+fn damaged_texts(cases: &mut Vec<Case>) {
+    let ask = b"(ask\n(need 7)\n(need 8)\n(not 9)\n(level 100 140)\n(from 1)\n(moves 50)\n)\n";
     for cut in 0..=P.len() {
         cases.push(Case::Plant(P[..cut].to_vec(), [9; 6]));
         cases.push(Case::Respond(P[..cut].to_vec(), ask.to_vec()));
@@ -486,8 +503,11 @@ pub fn systematic() -> Vec<Case> {
             cases.push(Case::Query(text));
         }
     }
-    let values = (0..16).chain([65_534, 65_535, 65_536, u32::MAX - 1, u32::MAX]);
-    for value in values {
+}
+
+/// P's tables with each entry set to small and to large numbers.
+fn damaged_tables(p: &Tables, cases: &mut Vec<Case>) {
+    for value in (0..16).chain([65_534, 65_535, 65_536, u32::MAX - 1, u32::MAX]) {
         macro_rules! each {
             ($field:ident, $kind:ty) => {
                 for i in 0..p.$field.len() {
@@ -505,17 +525,6 @@ pub fn systematic() -> Vec<Case> {
         each!(starts, u32);
         each!(postings, u32);
     }
-    for room in 0..8 {
-        for table in 0..6 {
-            let mut rooms = [9; 6];
-            rooms[table] = room;
-            cases.push(Case::Plant(P.to_vec(), rooms));
-        }
-        cases.push(Case::Search(p.clone(), Query::empty(), vec![5; room]));
-    }
-    small_queries(&p, &mut cases);
-    short_tables(&mut cases);
-    cases
 }
 
 /// Every query of up to two required and up to two forbidden terms over P, with every start and small budgets.

@@ -453,18 +453,26 @@ pub fn read_query(text: &[u8]) -> Result<Query, Refused> {
         if numbers.iter().any(|&n| n > u32::MAX as u64) {
             return Err((32, k));
         }
-        let first = numbers[0] as u32;
-        let terms = if at == 0 { &mut query.required } else { &mut query.forbidden };
-        match at {
-            0 | 1 if terms.len() == 8 => return Err((35, k)),
-            0 | 1 => terms.push(first),
-            2 => query.levels = Some((first, numbers[1] as u32)),
-            3 => query.start = first,
-            _ => query.budget = first,
+        if !set_line(&mut query, at, &numbers) {
+            return Err((35, k));
         }
         stage = if at < 2 { at } else { at + 1 };
     }
     unreachable!()
+}
+
+/// Sets what a line of this stage says; false: there are eight such terms already.
+fn set_line(query: &mut Query, at: u32, numbers: &[u64]) -> bool {
+    let first = numbers[0] as u32;
+    let terms = if at == 0 { &mut query.required } else { &mut query.forbidden };
+    match at {
+        0 | 1 if terms.len() == 8 => return false,
+        0 | 1 => terms.push(first),
+        2 => query.levels = Some((first, numbers[1] as u32)),
+        3 => query.start = first,
+        _ => query.budget = first,
+    }
+    true
 }
 
 /// What the program has room for: devices, terms, postings.

@@ -29,6 +29,13 @@ pub fn matches(tables: &Tables, query: &Query) -> Vec<bool> {
 
 /// Refusals 1 to 9 as the table of document 01 says them, each device against each.
 pub fn check(t: &Tables) -> u32 {
+    match check_devices(t) {
+        0 => check_index(t),
+        refusal => refusal,
+    }
+}
+
+fn check_devices(t: &Tables) -> u32 {
     let n = t.last.len();
     if n > 65_535 || t.root.len() != n || t.level.len() != n {
         return 1;
@@ -47,6 +54,12 @@ pub fn check(t: &Tables) -> u32 {
     if !devices().all(|d| devices().find(|&e| holds(e, d)) == Some(t.root[d - 1] as usize)) {
         return 4;
     }
+    0
+}
+
+/// For device tables that were accepted.
+fn check_index(t: &Tables) -> u32 {
+    let n = t.last.len();
     if t.terms.len() > 8_192 || t.postings.len() > 1_048_576 || t.starts.len() != t.terms.len() {
         return 5;
     }
@@ -69,7 +82,8 @@ pub fn check(t: &Tables) -> u32 {
     if (0..count).any(|k| (0..list(k).len()).any(|i| misplaced(list(k), i))) {
         return 8;
     }
-    let redundant = |l: &[u32], e: usize| l.iter().any(|&q| q % 2 == 1 && device_of(q) < e && e <= last(device_of(q)));
+    let redundant =
+        |l: &[u32], e: usize| l.iter().any(|&q| q % 2 == 1 && device_of(q) < e && e <= t.last[device_of(q) - 1] as usize);
     if (0..count).any(|k| list(k).iter().any(|&q| redundant(list(k), device_of(q)))) {
         return 9;
     }
