@@ -4,7 +4,7 @@ use libc::STDOUT_FILENO;
 
 // Prints `name position device: index`, and answers the index.
 fn show(name: &[u8], list: &[u32], position: usize, device: u32) -> usize {
-    let index = index::cursor::seek_from(list, position, device);
+    let index = posting_cursor::seek_from(list, position, device);
     io::write_all(STDOUT_FILENO, name);
     io::write_all(STDOUT_FILENO, b" ");
     io::print_decimal(STDOUT_FILENO, position as u64);
@@ -18,7 +18,7 @@ fn show(name: &[u8], list: &[u32], position: usize, device: u32) -> usize {
 
 // Prints `name twice first second: index`.
 fn show_twice(name: &[u8], list: &[u32], first: u32, second: u32) {
-    let index = index::cursor::seek_twice(list, first, second);
+    let index = posting_cursor::seek_twice(list, first, second);
     io::write_all(STDOUT_FILENO, name);
     io::write_all(STDOUT_FILENO, b" twice ");
     io::print_decimal(STDOUT_FILENO, first as u64);

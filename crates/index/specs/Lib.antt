@@ -3,4 +3,3 @@ pub mod Index
 pub mod Around
 pub mod Lookup
 pub mod Forward
-pub mod Cursor

@@ -1,5 +1,4 @@
-// The index of a plant: its check, the list of a term, the forward step, and a cursor on a list.
-pub mod cursor;
+// The index of a plant: its check, the list of a term, and the forward step.
 mod forward;
 mod list;
 mod postings;

@@ -1,4 +1,5 @@
 -- Walks of the functions over a cursor.
 mod Lent
+mod Locals
 mod Scans
 mod Seeks

@@ -1,9 +1,9 @@
 // A cursor on a list of postings (document 01's walker), which goes forward. The step is `first_at_least`; the functions over the cursor are
 // thin, and proved by hand.
-use crate::forward::first_at_least;
+use index::first_at_least;
 ghost use mathlib.Core.Path.{_≡_};
 ghost use Rattle.index.specs.Forward.{forward};
-ghost use Rattle.index.specs.Cursor.{forwarded};
+ghost use Rattle.posting_cursor.specs.Cursor.{forwarded};
 
 pub struct PostingCursor<'a> {
     pub list: &'a [u32],
@@ -22,7 +22,8 @@ pub fn seek<'a>(cursor: PostingCursor<'a>, device: u32) -> PostingCursor<'a>
     ensures { λ r. ⌜ r ≡ forwarded (cursor .entry) device ⌝ }
 {
     let list = cursor.list;
-    let position = first_at_least(list, cursor.position, device);
+    let from = cursor.position;
+    let position = first_at_least(list, from, device);
     PostingCursor { list, position }
 }
 
@@ -32,7 +33,8 @@ impl<'a> PostingCursor<'a> {
         ensures { λ r. ⌜ (now (self .exit) ≡ forwarded (now (self .entry)) device) × (r ≡ now (self .exit) .position) ⌝ }
     {
         let list = self.list;
-        let position = first_at_least(list, self.position, device);
+        let from = self.position;
+        let position = first_at_least(list, from, device);
         self.position = position;
         position
     }
@@ -42,8 +44,9 @@ impl<'a> PostingCursor<'a> {
 pub fn seek_from(list: &[u32], position: usize, device: u32) -> usize
     ensures { λ i. ⌜ i ≡ forward (now (list .entry)) position device ⌝ }
 {
-    let cursor = seek(PostingCursor { list, position }, device);
-    cursor.position
+    let before = PostingCursor { list, position };
+    let after = seek(before, device);
+    after.position
 }
 
 // A cursor at the start, moved forward to two devices in turn, by the method. Whoever calls it needs no walk.

@@ -1,4 +1,4 @@
--- `index::cursor::seek_twice` meets its contract: a walk of its MIR, by hand. The cursor that `new` returns is held in a local, which is lent to the method `seek` twice (`Seeks.antt`). All that the proof knows of the two is that each meets its contract.
+-- `posting_cursor::seek_twice` meets its contract: a walk of its MIR, by hand. The cursor that `new` returns is held in a local, which is lent to the method `seek` twice (`Seeks.antt`). All that the proof knows of the two is that each meets its contract.
 -- Assumes nothing.
 use mathlib.Core.Path.{_≡_, refl, ap, _∙_}
 use Prim.Native.Nat.{ℕ, _<_, _^_}
@@ -17,7 +17,7 @@ use ghost.Atoms.{Atoms, sem}
 use contract.Monad.{Fun, fact}
 use contract.Running.{givenOf, tables, tablesOf}
 use types.Kit.{Given, ‵, raw, _⊛_, ⋆, some, later, _$_, _∵_, !, qed, by, move, drop, use1, use2, use3, split, join, pick, rewrite, fsplit, fjoin, suffices, frame, await, done}
-use types.Run.{look, init, forget, stop, from, load, of-opd, addr, and-then, no-more, assigns, land, returns, enter, alloc1, alloc0, params1, pass1, pass0, free1, free0}
+use types.Run.{look, init, forget, stop, from, of-opd, addr, and-then, no-more, assigns, land, returns, enter, alloc1, alloc0, params1, pass1, pass0, free1, free0}
 use types.Tokens.{lft-new}
 use sound.WpLaws.{FmC, fmOf, WpFn-mono}
 use denote.RattleType.{owns}
@@ -38,23 +38,24 @@ use denote.Triple.Table.{entered, cited}
 use denote.Triple.Walked.{says, Stays, stay-none, stay-none-slice, walkOf, goes-none, goes-none-slice, ends-at, walked, walk-meets}
 use denote.Exit.{yes}
 use denote.Triple.Clauses.{ensured, lasts}
 use Rattle.index.specs.Forward.{forward}
-use Rattle.index.specs.Cursor.{forwarded}
-use Rattle.index.specs.declared.cursor.PostingCursor.{PostingCursor}
-use Rattle.index.proofs.cursor.Seeks.{R, cell, Seek, puts, takes, Loan, to, lends, comes-back}
-use Rattle.index.proofs.cursor.PostingCursor as T
-use Rattle.index.proofs.cursor.PostingCursor.Laws as T′
-use Rattle.index.proofs.cursor.new as new
-use Rattle.index.proofs.cursor.new.Symbol as new-def
-use Rattle.index.proofs.cursor.new.Symbol.{name as #index·cursor·new}
-use Rattle.index.proofs.cursor.new.Met as new-thm
-use Rattle.index.proofs.cursor.PostingCursor.seek.Symbol as seek-def
-use Rattle.index.proofs.cursor.PostingCursor.seek.Symbol.{name as #index·cursor·PostingCursor·seek}
-use Rattle.index.proofs.cursor.PostingCursor.seek.Met as seek-thm
-use Rattle.index.proofs.cursor.seek_twice.Key.{name as #index·cursor·seek-twice}
-use Rattle.index.proofs.cursor.seek_twice as seek-twice
-use Rattle.index.proofs.cursor.seek_twice.Statement as stated
-use Rattle.index.proofs.cursor.seek_twice.Code as code
+use Rattle.posting_cursor.specs.Cursor.{forwarded}
+use Rattle.posting_cursor.specs.declared.PostingCursor.{PostingCursor}
+use Rattle.posting_cursor.proofs.Locals.{local}
+use Rattle.posting_cursor.proofs.Seeks.{R, cell, Seek, puts, takes, Loan, to, lends, comes-back}
+use Rattle.posting_cursor.proofs.PostingCursor as T
+use Rattle.posting_cursor.proofs.PostingCursor.Laws as T′
+use Rattle.posting_cursor.proofs.new as new
+use Rattle.posting_cursor.proofs.new.Symbol as new-def
+use Rattle.posting_cursor.proofs.new.Symbol.{name as #posting-cursor·new}
+use Rattle.posting_cursor.proofs.new.Met as new-thm
+use Rattle.posting_cursor.proofs.PostingCursor.seek.Symbol as seek-def
+use Rattle.posting_cursor.proofs.PostingCursor.seek.Symbol.{name as #posting-cursor·PostingCursor·seek}
+use Rattle.posting_cursor.proofs.PostingCursor.seek.Met as seek-thm
+use Rattle.posting_cursor.proofs.seek_twice.Key.{name as #posting-cursor·seek-twice}
+use Rattle.posting_cursor.proofs.seek_twice as seek-twice
+use Rattle.posting_cursor.proofs.seek_twice.Statement as stated
+use Rattle.posting_cursor.proofs.seek_twice.Code as code
 
 abbrev stayed : Stays (seek-twice.ended .signature .params) (seek-twice.ended .kept)
 stayed = (stay-none-slice (0 ∷ []) tt (plain (λ _. u32)) yes, (stay-none (λ _. u32) yes, (stay-none (λ _. u32) yes, tt)))
@@ -105,7 +106,7 @@ module _ {M : Type 1} (𝓤 : URA M) (H : Heap 𝓤) (A : Atoms 𝓤) (W : Given
       join ! $ frame ! $ nothing ! $ owned ! u32 (Is u32) (uint-makes 𝓤 H A W w32) n _ (refl, n-fits) $ fjoin ! $ owned ! u32 (Is u32) (uint-makes 𝓤 H A W w32) m _ (refl, m-fits) $ fjoin ! $ move ! (1 ∷ 0 ∷ []) $ fjoin ! $ frame ! $
       owned ! usize (Is usize) (uint-makes 𝓤 H A W w64) r _ (refl, fits) $ done !
 
-  module _ (C : Calls 𝓤 H) (Λ : Loops 𝓤 H) (fm : FmC 𝓤 H (W .laws) C) (known-new : Triple 𝓤 (C #index·cursor·new) (New 𝓤 H A at-mem run)) (known : Triple 𝓤 (C #index·cursor·PostingCursor·seek) (Seek 𝓤 H A at-mem run)) where
+  module _ (C : Calls 𝓤 H) (Λ : Loops 𝓤 H) (fm : FmC 𝓤 H (W .laws) C) (known-new : Triple 𝓤 (C #posting-cursor·new) (New 𝓤 H A at-mem run)) (known : Triple 𝓤 (C #posting-cursor·PostingCursor·seek) (Seek 𝓤 H A at-mem run)) where
     walk : Is (ShrSlice (named 0) κ u32) s (v ∷ []) → ent 𝓤 (onEntry 𝓤 H A seek-twice.signature (κ, tt) (q, tt) (s, (m, (n, tt))) at) (WpFn 𝓤 H C Λ code.function (v ∷ vint w32 m ∷ vint w32 n ∷ []) Post)
     walk is-s =
         qed W (raw (onEntry 𝓤 H A seek-twice.signature (κ, tt) (q, tt) (s, (m, (n, tt))) at) ∷ []) ∵ enter ! C Λ code.function (v ∷ vint w32 m ∷ vint w32 n ∷ []) _ $
@@ -113,21 +114,21 @@ module _ {M : Type 1} (𝓤 : URA M) (H : Heap 𝓤) (A : Atoms 𝓤) (W : Given
         pass1 ! (init ! 14 refl (shr-slice-lawful 𝓤 H A W (named 0) κ u32 .typed s (v ∷ []) is-s .0)) $ pass1 ! (init ! 12 refl (tt, record { fits = m-fits })) $ pass1 ! (init ! 10 refl (tt, record { fits = n-fits })) $ pass0 ! $
         -- `new`, into _5, and its copy in _4
         move ! (18 ∷ []) $ use1 W (raw (New 𝓤 H A at-mem run .pre to-new) ⊛ ‵ Own) goes-new $ split ! $
-        calls-at ! fm (New 𝓤 H A at-mem run) known-new to-new (and-then ! (load ! (from ! (stop !)) (look ! 16 refl)) (no-more !)) (λ u.
+        calls-at ! fm (New 𝓤 H A at-mem run) known-new to-new (and-then ! (local ! 18 refl) (no-more !)) (λ u.
         use1 W (later (some (λ (r : PostingCursor). ((‵ (flft κ q) ⊛ ‵ ftrue) ⊛ ‵ (R κ .own r (u ∷ []))) ⊛ raw (ensured 𝓤 H A new.ended (new.clauses 𝓤 H A at-mem run) (κ, tt) (s, tt) tt r)))) (id⊢ 𝓤 _) $ await ! tt $ pick ! (λ c.
         split ! $ move ! (1 ∷ []) $ use1 W (raw (fact 𝓤 ((c .list ≡ s) × (c .position ≡ 0)))) (new-said c) $ heard ! ((c .list ≡ s) × (c .position ≡ 0)) (λ e. split ! $ move ! (1 ∷ []) $
         -- [what the cursor owns; the token; what list owns; _8; …; _7; …; _6; …; _5; …; _4; …; _3; …; _2; …; _1; …; room for _0; …]
         peeks ! (R κ) (Is (R κ)) (shows 𝓤 H A (R κ)) c (u ∷ []) (λ is.
         let wt = LL.lawful (T.the-type αᵉ) (T′.the-laws αᵉ) 𝓤 H A W .typed c _ is .0 in
         let spells = LL.tells (T.the-type αᵉ) (T′.the-laws αᵉ) c _ is in
-        land ! (from ! (stop !)) (init ! 9 refl wt) $ assigns ! (of-opd ! (load ! (from ! (stop !)) (look ! 9 refl))) (from ! (stop !)) (init ! 11 refl wt) $
+        land ! (from ! (stop !)) (init ! 9 refl wt) $ assigns ! (of-opd ! (local ! 19 refl)) (from ! (stop !)) (init ! 11 refl wt) $
         rewrite ! 11 (λ (x : Val). ‵ (fat fullShare (T′.mir erased) l₄ 0 x)) (ap only spells) refl $ rewrite ! 0 (λ (us : List Val). ‵ (R κ .own c us)) spells refl $
         assigns ! (addr ! (from ! (stop !))) (from ! (stop !)) (init ! 5 refl (tt, tt)) $
         move ! (1 ∷ []) $ split ! $ move ! (12 ∷ 2 ∷ []) $ use2 W (‵ (mem (R κ) .lies c l₄ 0)) (puts 𝓤 H A W κ l₄ c) $
-        -- [what lies in _4; the token; true; what list owns; _8; …; _7; …; _6; …; _5; …; …of _4; _3; …; _2; …; _1; …; room for _0; …]: the first call
+        -- [what lies in _4; the token; true; what list owns; _8; …; _7; …; _6; …; _5; …; …of _4; _3; …; _2; …; _1; …; room for _0; …]: the first call. (_4 has one entry here, so those above it count from 20.)
         lft-new ! tt (λ ν. move ! (1 ∷ 0 ∷ 2 ∷ []) $
         use3 W (later (some (λ (δ : GName). raw (Seek 𝓤 H A at-mem run .pre (to 𝓤 H A W κ l₄ c q at-mem run m m-fits ν δ)) ⊛ raw (Loan 𝓤 H A W κ l₄ c q at-mem run m m-fits ν δ)))) (lends 𝓤 H A W κ l₄ c q at-mem run m m-fits ν) $ await ! tt $ pick ! (λ δ. split ! $
-        calls-at ! fm (Seek 𝓤 H A at-mem run) known (to 𝓤 H A W κ l₄ c q at-mem run m m-fits ν δ) (and-then ! (load ! (from ! (stop !)) (look ! 6 refl)) (and-then ! (load ! (from ! (stop !)) (look ! 15 refl)) (no-more !))) (λ u₁.
+        calls-at ! fm (Seek 𝓤 H A at-mem run) known (to 𝓤 H A W κ l₄ c q at-mem run m m-fits ν δ) (and-then ! (local ! 20 refl) (and-then ! (local ! 19 refl) (no-more !))) (λ u₁.
         let c₁ = forwarded c m in
         use2 W (later (‵ (usize .own (c₁ .position) (u₁ ∷ [])) ⊛ (‵ (mem (R κ) .lies c₁ l₄ 0) ⊛ ‵ (flft κ q)))) (comes-back 𝓤 H A W κ l₄ c q at-mem run m m-fits ν δ u₁) $ await ! tt $ split ! $
         peeks ! usize (Is usize) (shows 𝓤 H A usize) (c₁ .position) (u₁ ∷ []) (λ is₁. land ! (from ! (stop !)) (init ! 8 refl (uint-lawful 𝓤 H A W w64 .typed (c₁ .position) _ is₁ .0)) $ drop ! $ split ! $
@@ -135,7 +136,7 @@ module _ {M : Type 1} (𝓤 : URA M) (H : Heap 𝓤) (A : Atoms 𝓤) (W : Given
         assigns ! (addr ! (from ! (stop !))) (from ! (stop !)) (init ! 4 refl (tt, tt)) $
         lft-new ! tt (λ ν₂. move ! (1 ∷ 0 ∷ 2 ∷ []) $
         use3 W (later (some (λ (δ : GName). raw (Seek 𝓤 H A at-mem run .pre (to 𝓤 H A W κ l₄ c₁ q at-mem run n n-fits ν₂ δ)) ⊛ raw (Loan 𝓤 H A W κ l₄ c₁ q at-mem run n n-fits ν₂ δ)))) (lends 𝓤 H A W κ l₄ c₁ q at-mem run n n-fits ν₂) $ await ! tt $ pick ! (λ δ₂. split ! $
-        calls-at ! fm (Seek 𝓤 H A at-mem run) known (to 𝓤 H A W κ l₄ c₁ q at-mem run n n-fits ν₂ δ₂) (and-then ! (load ! (from ! (stop !)) (look ! 4 refl)) (and-then ! (load ! (from ! (stop !)) (look ! 13 refl)) (no-more !))) (λ u₂.
+        calls-at ! fm (Seek 𝓤 H A at-mem run) known (to 𝓤 H A W κ l₄ c₁ q at-mem run n n-fits ν₂ δ₂) (and-then ! (local ! 20 refl) (and-then ! (local ! 19 refl) (no-more !))) (λ u₂.
         let c₂ = forwarded c₁ n in
         use2 W (later (‵ (usize .own (c₂ .position) (u₂ ∷ [])) ⊛ (‵ (mem (R κ) .lies c₂ l₄ 0) ⊛ ‵ (flft κ q)))) (comes-back 𝓤 H A W κ l₄ c₁ q at-mem run n n-fits ν₂ δ₂ u₂) $ await ! tt $ split ! $
         peeks ! usize (Is usize) (shows 𝓤 H A usize) (c₂ .position) (u₂ ∷ []) (λ is₂. land ! (from ! (stop !)) (init ! 19 refl (uint-lawful 𝓤 H A W w64 .typed (c₂ .position) _ is₂ .0)) $ rewrite ! 19 (λ (x : Val). ‵ (fat fullShare (tyInt w64) l₀ 0 x)) (ap only (is₂ .0)) refl $ drop ! $ split ! $
@@ -146,7 +147,7 @@ module _ {M : Type 1} (𝓤 : URA M) (H : Heap 𝓤) (A : Atoms 𝓤) (W : Given
         by ! (exits (c₂ .position) (ap (λ (x : RefT (List ℕ)). twice x (c .position)) (e .0) ∙ ap (twice s) (e .1)) (is₂ .1)))))))))))))))))))))))
 
 seek-twice-meets : {M : Type 1} (𝓤 : URA M) (H : Heap 𝓤) (A : Atoms 𝓤) (W : Given 𝓤 H A) (at-mem : Memory → SProp 𝓤) (run : Routine → Fun 𝓤) (𝓣 : Tables 𝓤 H)
-    → Triple 𝓤 (𝓣 .C #index·cursor·new) (New 𝓤 H A at-mem run) → Triple 𝓤 (𝓣 .C #index·cursor·PostingCursor·seek) (Seek 𝓤 H A at-mem run)
+    → Triple 𝓤 (𝓣 .C #posting-cursor·new) (New 𝓤 H A at-mem run) → Triple 𝓤 (𝓣 .C #posting-cursor·PostingCursor·seek) (Seek 𝓤 H A at-mem run)
     → Meets 𝓤 H A seek-twice.signature (WpFn 𝓤 H (𝓣 .C) (𝓣 .Λ) code.function) (seek-twice.spec 𝓤 H A at-mem run)
 seek-twice-meets 𝓤 H A W at-mem run 𝓣 known-new known =
     walk-meets 𝓤 H A seek-twice.ended stayed W (goes-none-slice 𝓤 H A W 1 (0 ∷ []) tt (plain (λ _. u32)) yes, (goes-none 𝓤 H A W 1 (λ _. u32) yes (λ κs x f. refl), (goes-none 𝓤 H A W 1 (λ _. u32) yes (λ κs x f. refl), tt))) (seek-twice.clauses 𝓤 H A at-mem run)
@@ -158,7 +159,7 @@ pub seek-twice-spec : {M : Type 1} → stated.statement M
 unfolding code.routine tablesOf
 seek-twice-spec 𝓤 H 𝓜 𝓖 𝓡 =
     entered 𝓤 H (tripleOf 𝓤 H (𝓖 .A) seek-twice.signature (seek-twice.spec 𝓤 H (𝓖 .A) (𝓜 .mem) (𝓡 .run)))
-    (tables 𝓤 H 𝓜 𝓡 code.env .C) (tables 𝓤 H 𝓜 𝓡 code.env .Λ) #index·cursor·seek-twice code.function (code.unfolded 𝓤 H 𝓜 𝓡)
+    (tables 𝓤 H 𝓜 𝓡 code.env .C) (tables 𝓤 H 𝓜 𝓡 code.env .Λ) #posting-cursor·seek-twice code.function (code.unfolded 𝓤 H 𝓜 𝓡)
     (seek-twice-meets 𝓤 H (𝓖 .A) (givenOf 𝓤 H 𝓜 𝓖) (𝓜 .mem) (𝓡 .run) (tablesOf 𝓤 H 𝓜 (tables 𝓤 H 𝓜 𝓡 code.env))
-    (cited 𝓤 H (New 𝓤 H (𝓖 .A) (𝓜 .mem) (𝓡 .run)) 𝓜 𝓡 code.env #index·cursor·new new-def.routine code.calls-index·cursor·new (new-thm.met 𝓤 H 𝓜 𝓖 𝓡))
-    (cited 𝓤 H (Seek 𝓤 H (𝓖 .A) (𝓜 .mem) (𝓡 .run)) 𝓜 𝓡 code.env #index·cursor·PostingCursor·seek seek-def.routine code.calls-index·cursor·PostingCursor·seek (seek-thm.met 𝓤 H 𝓜 𝓖 𝓡)))
+    (cited 𝓤 H (New 𝓤 H (𝓖 .A) (𝓜 .mem) (𝓡 .run)) 𝓜 𝓡 code.env #posting-cursor·new new-def.routine code.calls-posting-cursor·new (new-thm.met 𝓤 H 𝓜 𝓖 𝓡))
+    (cited 𝓤 H (Seek 𝓤 H (𝓖 .A) (𝓜 .mem) (𝓡 .run)) 𝓜 𝓡 code.env #posting-cursor·PostingCursor·seek seek-def.routine code.calls-posting-cursor·PostingCursor·seek (seek-thm.met 𝓤 H 𝓜 𝓖 𝓡)))

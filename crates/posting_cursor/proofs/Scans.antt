@@ -33,12 +33,12 @@ use denote.Triple.Statement.{Contract}
 use denote.Triple.Entry.{Vals, onEntry}
 use denote.Triple.Spec.{tripleOf}
 use denote.Triple.Clauses.{ensured, lasts}
 use Rattle.index.specs.Forward.{forward}
-use Rattle.index.specs.Cursor.{forwarded}
-use Rattle.index.specs.declared.cursor.PostingCursor.{PostingCursor}
-use Rattle.index.proofs.cursor.PostingCursor as T
-use Rattle.index.proofs.cursor.PostingCursor.Laws as T′
-use Rattle.index.proofs.forward.first_at_least as scan
+use Rattle.posting_cursor.specs.Cursor.{forwarded}
+use Rattle.posting_cursor.specs.declared.PostingCursor.{PostingCursor}
+use Rattle.posting_cursor.proofs.PostingCursor as T
+use Rattle.posting_cursor.proofs.PostingCursor.Laws as T′
+use Rattle.index.proofs.first_at_least as scan
 
 module _ {M : Type 1} (𝓤 : URA M) (H : Heap 𝓤) (A : Atoms 𝓤) (mem : Memory → SProp 𝓤) (run : Routine → Fun 𝓤) where
   abbrev pub Scan : Contract 𝓤

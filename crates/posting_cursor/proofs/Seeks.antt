@@ -30,12 +30,12 @@ use denote.Struct.Steps.{spelt}
 use denote.Triple.Statement.{Contract}
 use denote.Triple.Spec.{tripleOf}
 use denote.Triple.Clauses.{ensured, lasts}
-use Rattle.index.specs.Cursor.{forwarded}
-use Rattle.index.specs.declared.cursor.PostingCursor.{PostingCursor}
-use Rattle.index.proofs.cursor.Lent as lent
-use Rattle.index.proofs.cursor.PostingCursor as T
-use Rattle.index.proofs.cursor.PostingCursor.Laws as T′
-use Rattle.index.proofs.cursor.PostingCursor.seek as seek
+use Rattle.posting_cursor.specs.Cursor.{forwarded}
+use Rattle.posting_cursor.specs.declared.PostingCursor.{PostingCursor}
+use Rattle.posting_cursor.proofs.Lent as lent
+use Rattle.posting_cursor.proofs.PostingCursor as T
+use Rattle.posting_cursor.proofs.PostingCursor.Laws as T′
+use Rattle.posting_cursor.proofs.PostingCursor.seek as seek
 
 -- the cursor's type as the method's signature has it, and its cell as a local has it
 abbrev α : Lft → NamedLft
