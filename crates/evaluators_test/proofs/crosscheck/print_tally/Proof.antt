@@ -1,0 +1,28 @@
+-- `print_tally` is safe and ends: its loop counts.
+use Prim.Native.Nat.{_-_}
+use Rattle.evaluators_test.proofs.crosscheck.print_tally.Statement.{statement}
+use Rattle.evaluators_test.proofs.crosscheck.print_tally.Tie as tie
+use borrow.Author.Needs.{needs}
+
+abbrev Inv-loop : tie.InvT-loop
+Inv-loop tally k₀ t3 k = Unit {0}
+
+abbrev μ-loop : tie.MeasureT-loop
+μ-loop tally k₀ t3 k = 15 - k
+
+pub print-tally-spec : {M : Type 1} → statement M
+print-tally-spec =
+    tie.close
+    (tie.spec
+    Inv-loop
+    μ-loop
+    (λ c. search needs)
+    (λ c. search needs)
+    (λ c. search needs)
+    (λ c. search needs)
+    (λ c. search needs)
+    (λ c κs. search needs)
+    (λ c. search needs)
+    (λ c. search needs)
+    (λ c. search needs)
+    (λ c. search needs))

@@ -1,0 +1,159 @@
+// The search beside the evaluators, for one plant, index and query.
+use crate::cells::at16;
+use crate::numbers::least;
+use crate::numbers::next;
+use crate::refusals::refusal;
+use crate::slow::listing;
+use crate::spoil::Lengths;
+use crate::steps::walk;
+use query::Answer;
+use query::Query;
+use query::search;
+
+// Whether the answer list, which held 9999 everywhere, keeps its entries from `from` on.
+fn is_kept(answer: &[u16], from: usize) -> bool {
+    let mut i = from;
+    while i < answer.len() {
+        if at16(answer, i) != 9999 {
+            return false;
+        }
+        i += 1;
+    }
+    true
+}
+
+// Whether the answer's first entries are the devices below the position that `listed` marks, lowest first, and no more.
+fn is_listing(answer: &[u16], count: u32, position: u32, listed: &[u8; 16]) -> bool {
+    let mut j: usize = 0;
+    let mut d: u32 = 0;
+    while d < 16 {
+        if d < position && listed[d as usize] == 1 {
+            if at16(answer, j) != d {
+                return false;
+            }
+            j = next(j);
+        }
+        d += 1;
+    }
+    j == count as usize
+}
+
+// Whether a refusal has zeros beside it.
+fn is_bare(a: Answer) -> bool {
+    a.count == 0 && a.position == 0 && a.moves == 0
+}
+
+// Whether an accepted answer is the slow listing up to its position, and the plain steps' listing, position and moves.
+fn is_right(
+    last: &[u16],
+    root: &[u16],
+    level: &[u8],
+    terms: &[u16],
+    starts: &[u32],
+    postings: &[u32],
+    query: Query,
+    answer: &[u16],
+    a: Answer,
+) -> bool {
+    let mut slow = [0u8; 16];
+    let mut plain = [0u8; 16];
+    listing(last, level, terms, starts, postings, query, &mut slow);
+    let ended = walk(
+        last,
+        root,
+        level,
+        terms,
+        starts,
+        postings,
+        query,
+        &mut plain,
+    );
+    if a.position != ended.position || a.moves != ended.moves {
+        return false;
+    }
+    is_listing(answer, a.count, a.position, &slow)
+        && is_listing(answer, a.count, a.position, &plain)
+}
+
+// The refusal that the search gives, or 15 where anything differs.
+fn judge(
+    last: &[u16],
+    root: &[u16],
+    level: &[u8],
+    terms: &[u16],
+    starts: &[u32],
+    postings: &[u32],
+    query: Query,
+    answer: &mut [u16],
+) -> u32 {
+    let expected = refusal(
+        last,
+        root,
+        level,
+        terms,
+        starts,
+        postings,
+        query,
+        answer.len(),
+    );
+    let a = search(last, root, level, terms, starts, postings, query, answer);
+    if a.refusal != expected || !is_kept(answer, a.count as usize) {
+        return 15;
+    }
+    if expected != 0 {
+        if is_bare(a) {
+            return expected;
+        }
+        return 15;
+    }
+    if is_right(last, root, level, terms, starts, postings, query, answer, a) {
+        return 0;
+    }
+    15
+}
+
+// Judges the parts of the tables that are lent.
+fn judge_parts(
+    last: &[u16],
+    root: &[u16],
+    level: &[u8],
+    terms: &[u16],
+    starts: &[u32],
+    postings: &[u32],
+    sizes: Lengths,
+    query: Query,
+) -> u32 {
+    let mut list = [9999u16; 16];
+    let answer: &mut [u16] = &mut list;
+    let a = least(sizes.last, last.len());
+    let b = least(sizes.root, root.len());
+    let c = least(sizes.level, level.len());
+    let d = least(sizes.terms, terms.len());
+    let e = least(sizes.starts, starts.len());
+    let f = least(sizes.postings, postings.len());
+    let g = least(sizes.room, answer.len());
+    judge(
+        &last[..a],
+        &root[..b],
+        &level[..c],
+        &terms[..d],
+        &starts[..e],
+        &postings[..f],
+        query,
+        &mut answer[..g],
+    )
+}
+
+// The refusal that the search gives for the first entries of these tables, or 15 where anything differs.
+pub fn compare(
+    last: &[u16; 16],
+    root: &[u16; 16],
+    level: &[u8; 16],
+    terms: &[u16; 16],
+    starts: &[u32; 32],
+    postings: &[u32; 32],
+    sizes: Lengths,
+    query: Query,
+) -> u32 {
+    judge_parts(last, root, level, terms, starts, postings, sizes, query)
+}

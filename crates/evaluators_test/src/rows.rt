@@ -1,0 +1,91 @@
+// Document 01's rows a to m and its sentences after them, as texts. Prints each query with its answer and with what the slow evaluator
+// lists, and how many differ.
+use crate::beside;
+use crate::numbers::plus;
+use io::write_all;
+use libc::STDOUT_FILENO;
+use respond::respond;
+
+fn print(label: &[u8], query: &[u8], answer: &[u8]) {
+    write_all(STDOUT_FILENO, label);
+    write_all(STDOUT_FILENO, query);
+    write_all(STDOUT_FILENO, answer);
+}
+
+// Prints a query text and its answer over a plant text. Returns 1 where the devices listed are not those of the slow evaluator, else 0.
+fn row(label: &[u8], plant: &[u8], query: &[u8]) -> u32 {
+    let mut out = [0u8; 16384];
+    let n = respond(plant, query, &mut out);
+    print(label, query, &out[..n]);
+    let mut listed = [0u8; 16];
+    beside::listing_of_texts(plant, query, &mut listed);
+    beside::print(&listed);
+    if beside::agrees(&out[..n], &listed) {
+        0
+    } else {
+        1
+    }
+}
+
+// Prints a query text and its answer, where the answer is a refusal.
+fn refusal(label: &[u8], plant: &[u8], query: &[u8]) {
+    let mut out = [0u8; 16384];
+    let n = respond(plant, query, &mut out);
+    print(label, query, &out[..n]);
+    write_all(STDOUT_FILENO, b"\n");
+}
+
+// The rows, over plant P but for m. These functions return how many answers differ.
+fn rows_a_to_f(p: &[u8]) -> u32 {
+    let a = row(b"a\n", p, b"(ask\n(need 7)\n)\n");
+    let b = row(b"b\n", p, b"(ask\n(need 9)\n)\n");
+    let c = row(b"c\n", p, b"(ask\n(need 7)\n(not 9)\n)\n");
+    let d = row(b"d\n", p, b"(ask\n(need 9)\n(not 7)\n)\n");
+    let e = row(b"e\n", p, b"(ask\n(need 7)\n(level 100 140)\n)\n");
+    let f = row(b"f\n", p, b"(ask\n(need 7)\n(not 9)\n(moves 0)\n)\n");
+    plus(plus(plus(a, b), plus(c, d)), plus(e, f))
+}
+
+fn rows_g_to_m(p: &[u8]) -> u32 {
+    let g = row(b"g\n", p, b"(ask\n(need 8)\n)\n");
+    let h = row(b"h\n", p, b"(ask\n(not 8)\n)\n");
+    let i = row(b"i\n", p, b"(ask\n(need 7)\n(not 7)\n)\n");
+    let j = row(b"j\n", p, b"(ask\n(level 0 254)\n)\n");
+    let k = row(b"k\n", p, b"(ask\n(need 9)\n(from 6)\n)\n");
+    let l = row(b"l\n", p, b"(ask\n(need 7)\n(from 7)\n)\n");
+    let m = row(b"m\n", b"(plant\n)\n", b"(ask\n)\n");
+    plus(plus(plus(g, h), plus(i, j)), plus(plus(k, l), m))
+}
+
+// The sentences after the rows, two of them over plants of their own.
+fn sentences(p: &[u8]) -> u32 {
+    refusal(b"from 8 is 13\n", p, b"(ask\n(from 8)\n)\n");
+    refusal(b"high 255 is 12\n", p, b"(ask\n(level 0 255)\n)\n");
+    refusal(
+        b"mark 7 with all 2 and own 3 is redundant\n",
+        b"(plant\n(dev 120\n(dev 118\n(dev 255\n)\n)\n)\n(mark 7\n(all 2)\n(own 3)\n)\n)\n",
+        b"(ask\n(need 7)\n)\n",
+    );
+    row(
+        b"own 1 and all 2 is not\n",
+        b"(plant\n(dev 120\n(dev 118\n(dev 255\n)\n)\n)\n(mark 7\n(own 1)\n(all 2)\n)\n)\n",
+        b"(ask\n(need 7)\n)\n",
+    )
+}
+
+// All of them, where p is document 01's plant P.
+fn rows_and_sentences(p: &[u8]) -> u32 {
+    let first = rows_a_to_f(p);
+    let second = rows_g_to_m(p);
+    let third = sentences(p);
+    plus(plus(first, second), third)
+}
+
+pub fn print_rows() {
+    let n = rows_and_sentences(
+        b"(plant\n(dev 120\n(dev 118\n(dev 255\n)\n)\n(dev 121\n(dev 90\n)\n(dev 119\n)\n)\n)\n(mark 7\n(all 2)\n(own 5)\n)\n(mark 9\n(all 4)\n)\n)\n",
+    );
+    write_all(STDOUT_FILENO, b"differences ");
+    io::print_decimal(STDOUT_FILENO, n as u64);
+    write_all(STDOUT_FILENO, b"\n");
+}
