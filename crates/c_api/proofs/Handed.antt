@@ -5,10 +5,10 @@ use mathlib.Core.List.{List}
 use lib.ListN.{length, take}
 use Rattle.plant.specs.Plant.{Plant}
 use Rattle.index.specs.Index.{Index}
-use Rattle.query.specs.Answer.{answer, answer-list}
-use Rattle.query.specs.Promises.{Kept}
 use Rattle.query.specs.declared.Query.{Query}
-use Rattle.query.specs.declared.Answer.{Answer}
+use Rattle.search.specs.Answer.{answer, answer-list}
+use Rattle.search.specs.Promises.{Promised}
+use Rattle.search.specs.declared.Answer.{Answer}
 use Rattle.c_api.specs.Handing.{numbers-of}
 
 module _ (P : Plant) (I : Index) (out : List ℕ) {q Q : Query} (same : q ≡ Q) where
@@ -24,5 +24,5 @@ module _ (P : Plant) (I : Index) (out : List ℕ) {q Q : Query} (same : q ≡ Q)
   pub list-same : {out′ : List ℕ} → out′ ≡ answer-list P I q out → out′ ≡ answer-list P I Q out
   list-same {out′} e = subst (λ (x : Query). out′ ≡ answer-list P I x out) same e
 
-  pub kept-same : {listed : List ℕ} {position moves : ℕ} → Kept P I q listed position moves → Kept P I Q listed position moves
-  kept-same {listed} {position} {moves} k = subst (λ (x : Query). Kept P I x listed position moves) same k
+  pub promised-same : {listed : List ℕ} {position moves : ℕ} → Promised P I q listed position moves → Promised P I Q listed position moves
+  promised-same {listed} {position} {moves} k = subst (λ (x : Query). Promised P I x listed position moves) same k

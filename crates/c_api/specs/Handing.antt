@@ -4,7 +4,7 @@ use mathlib.Core.List.{List, [], _∷_, _++_}
 use lib.ListN.{length, take, replicate}
 use Rattle.query.specs.declared.Levels.{Levels}
 use Rattle.query.specs.declared.Query.{Query}
-use Rattle.query.specs.declared.Answer.{Answer}
+use Rattle.search.specs.declared.Answer.{Answer}
 use Rattle.query_text.specs.declared.QueryRead.{QueryRead}
 use Rattle.plant_text.specs.declared.Outcome.{Outcome}
 

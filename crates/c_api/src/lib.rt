@@ -5,8 +5,8 @@ ghost use lib.ListN.{length, getD, take};
 ghost use Rattle.plant.specs.Plant.{plant};
 ghost use Rattle.index.specs.Index as indexes;
 ghost use Rattle.index.specs.Index.{index};
-ghost use Rattle.query.specs.Answer.{answer, «answer-list»};
-ghost use Rattle.query.specs.Promises.{Kept};
+ghost use Rattle.search.specs.Answer.{answer, «answer-list»};
+ghost use Rattle.search.specs.Promises.{Promised};
 ghost use Rattle.query_text.specs.QueryText.{read};
 ghost use Rattle.plant_text.specs.PlantText as texts;
 ghost use Rattle.plant_text.specs.PlantText.{room, «plant-after», «index-after»};
@@ -57,10 +57,10 @@ pub extern "C" fn plant_search_search(
     ensures refusal { λ r. ⌜ r ≡ answer (plant (now (last .entry)) (now (root .entry)) (now (level .entry))) (index (now (terms .entry)) (now (starts .entry)) (now (postings .entry))) («query-of» (now (required .entry)) (now (forbidden .entry)) («levels-of» ranged low high) start budget) (length (now (out .entry))) .refusal ⌝ }
     ensures numbers { λ _. ⌜ now (numbers .exit) ≡ «numbers-of» (answer (plant (now (last .entry)) (now (root .entry)) (now (level .entry))) (index (now (terms .entry)) (now (starts .entry)) (now (postings .entry))) («query-of» (now (required .entry)) (now (forbidden .entry)) («levels-of» ranged low high) start budget) (length (now (out .entry)))) ⌝ }
     ensures listing { λ _. ⌜ now (out .exit) ≡ «answer-list» (plant (now (last .entry)) (now (root .entry)) (now (level .entry))) (index (now (terms .entry)) (now (starts .entry)) (now (postings .entry))) («query-of» (now (required .entry)) (now (forbidden .entry)) («levels-of» ranged low high) start budget) (now (out .entry)) ⌝ }
-    ensures kept { λ r. ⌜ (r ≡ 0 → Kept (plant (now (last .entry)) (now (root .entry)) (now (level .entry))) (index (now (terms .entry)) (now (starts .entry)) (now (postings .entry))) («query-of» (now (required .entry)) (now (forbidden .entry)) («levels-of» ranged low high) start budget) (take (getD (now (numbers .exit)) 0 0) (now (out .exit))) (getD (now (numbers .exit)) 1 0) (getD (now (numbers .exit)) 2 0)) ⌝ }
+    ensures promised { λ r. ⌜ (r ≡ 0 → Promised (plant (now (last .entry)) (now (root .entry)) (now (level .entry))) (index (now (terms .entry)) (now (starts .entry)) (now (postings .entry))) («query-of» (now (required .entry)) (now (forbidden .entry)) («levels-of» ranged low high) start budget) (take (getD (now (numbers .exit)) 0 0) (now (out .exit))) (getD (now (numbers .exit)) 1 0) (getD (now (numbers .exit)) 2 0)) ⌝ }
 {
     let query = query_of(required, forbidden, ranged, low, high, start, budget);
-    let told = query::search(last, root, level, terms, starts, postings, query, out);
+    let told = search::search(last, root, level, terms, starts, postings, query, out);
     *numbers = [told.count, told.position, told.moves];
     told.refusal
 }

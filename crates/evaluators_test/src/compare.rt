@@ -6,9 +6,9 @@ use crate::refusals::refusal;
 use crate::slow::listing;
 use crate::spoil::Lengths;
 use crate::steps::walk;
-use query::Answer;
 use query::Query;
-use query::search;
+use search::Answer;
+use search::search;
 
 // Whether the answer list, which held 9999 everywhere, keeps its entries from `from` on.
 fn is_kept(answer: &[u16], from: usize) -> bool {

@@ -1,6 +1,1 @@
 pub mod Query
-pub mod Matching
-pub mod Steps
-pub mod Cursors
-pub mod Answer
-pub mod Promises

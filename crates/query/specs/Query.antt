@@ -1,8 +1,8 @@
--- The query (document 01's ask), and the refusals of its own.
+-- The query (document 01's ask), the level rule, and the refusals of its own.
 use Prim.Native.Nat.{ℕ, _+_}
-use mathlib.Core.Bool.{Bool, false, _||_}
+use mathlib.Core.Bool.{Bool, true, false, _&&_, _||_, not}
 use mathlib.Core.List.{List}
-use lib.Dec.{ltb, eqb}
+use lib.Dec.{leb, ltb, eqb}
 use lib.ListN.{length, take, replicate}
 use Rattle.laws.specs.Rows.{pick}
 use Rattle.laws.specs.Search.{any}
@@ -28,6 +28,11 @@ required q = take (q .«required_count») (q .required)
 
 abbrev pub forbidden : Query → List ℕ
 forbidden q = take (q .«forbidden_count») (q .forbidden)
+
+-- "Codes 0 to 254 are true levels; 255 means no true level": a range (document 01's window) holds true levels alone
+abbrev pub in-range : Levels → ℕ → Bool
+in-range Levels.Any code = true
+in-range (Levels.Range low high) code = leb low code && leb code high && not (eqb code 255)
 
 -- 10: "a count over 8"
 abbrev pub crowded : Query → Bool

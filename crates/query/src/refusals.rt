@@ -2,13 +2,9 @@
 ghost use mathlib.Core.Path.{_≡_};
 ghost use mathlib.Core.Bool.{_||_};
 ghost use lib.Dec.{ltb};
-ghost use Rattle.plant.specs.Plant.{plant};
-ghost use Rattle.index.specs.Index.{index};
 ghost use Rattle.query.specs.Query.{no-terms, no-range, query-refusal};
-ghost use Rattle.query.specs.Answer.{refusal};
 use crate::Levels;
 use crate::Query;
-use index::check;
 
 // Whether a term is none.
 fn no_terms(terms: &[u32]) -> bool
@@ -44,8 +40,8 @@ fn no_range(levels: Levels) -> bool
     }
 }
 
-// The lowest refusal number of its own that applies to a query over a plant of `devices` devices, with room for `room` in the answer list, or 0.
-fn query_refusal(query: Query, devices: usize, room: usize) -> u32
+// The lowest refusal number that applies to a query over a plant of `devices` devices, with room for `room` in the answer list, or 0.
+pub fn refusal(query: Query, devices: usize, room: usize) -> u32
     ensures { λ r. ⌜ r ≡ query-refusal devices room query ⌝ }
 {
     let required_count = query.required_count;
@@ -73,24 +69,4 @@ fn query_refusal(query: Query, devices: usize, room: usize) -> u32
         return 14;
     }
     0
-}
-
-// The lowest refusal number that applies to the tables, the index and the query, in that order, or 0.
-pub fn refusal(
-    last: &[u16],
-    root: &[u16],
-    level: &[u8],
-    terms: &[u16],
-    starts: &[u32],
-    postings: &[u32],
-    query: Query,
-    room: usize,
-) -> u32
-    ensures { λ r. ⌜ r ≡ refusal (plant (now (last .entry)) (now (root .entry)) (now (level .entry))) (index (now (terms .entry)) (now (starts .entry)) (now (postings .entry))) query room ⌝ }
-{
-    let refused = check(last, root, level, terms, starts, postings);
-    if refused != 0 {
-        return refused;
-    }
-    query_refusal(query, last.len(), room)
 }

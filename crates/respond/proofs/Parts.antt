@@ -7,10 +7,10 @@ use lib.ListN.{length, take, length-append, length-take}
 use lib.Seq.{length-sets, sets-eq, take-append-seam}
 use Rattle.plant.specs.Plant.{Plant}
 use Rattle.index.specs.Index.{Index}
-use Rattle.query.specs.Steps.{End}
-use Rattle.query.specs.Answer.{told, written}
+use Rattle.steps.specs.Steps.{End}
 use Rattle.query.specs.declared.Query.{Query}
-use Rattle.query.specs.declared.Answer.{Answer}
+use Rattle.search.specs.Answer.{told, written}
+use Rattle.search.specs.declared.Answer.{Answer}
 use Rattle.text.specs.Reading.{made, no}
 use Rattle.plant_text.specs.PlantText as plant-texts
 use Rattle.plant_text.specs.PlantText.{State}

@@ -5,9 +5,9 @@ use mathlib.Core.List.{List, _++_}
 use lib.ListN.{length, take, drop}
 use Rattle.plant.specs.Plant.{Plant}
 use Rattle.index.specs.Index.{Index}
-use Rattle.query.specs.Steps.{End}
-use Rattle.query.specs.Answer.{refusal, steps}
+use Rattle.steps.specs.Steps.{End}
 use Rattle.query.specs.declared.Query.{Query}
+use Rattle.search.specs.Answer.{refusal, ended}
 use Rattle.text.specs.Reading.{Read, made, no}
 use Rattle.plant_text.specs.PlantText as plant-texts
 use Rattle.plant_text.specs.PlantText.{State}
@@ -22,11 +22,11 @@ program-room = record { devices = 1024; terms = 256; postings = 4096 }
 
 -- `(refused query 13)`, or the answer
 abbrev pub of-run : ℕ → End → List ℕ
-of-run zero e = answer-text (e .listed) (e .position) (e .moves)
+of-run zero e = answer-text (e .listed) (e .position) (e .counts .moves)
 of-run (suc n) e = numbered word-query (suc n)
 
 abbrev pub of-search : Plant → Index → Query → List ℕ
-of-search P I q = of-run (refusal P I q 1024) (steps P I q (q .budget))
+of-search P I q = of-run (refusal P I q 1024) (ended P I q (q .budget))
 
 -- `(refused ask 31 2)`, or what the search of the query comes to
 abbrev pub of-query : Plant → Index → ℕ → ℕ → Query → List ℕ

@@ -85,7 +85,7 @@ fn respond_search(
     ensures { λ _. ⌜ length (now (out .entry)) ≡ 16384 ⌝ }
 {
     let mut listing = [0u16; 1024];
-    let a = query::search(
+    let a = search::search(
         last,
         root,
         level,

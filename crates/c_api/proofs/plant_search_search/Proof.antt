@@ -2,7 +2,7 @@
 use borrow.Author.Needs.{needs}
 use Rattle.plant.specs.Plant.{plant}
 use Rattle.index.specs.Index.{index}
-use Rattle.c_api.proofs.Handed.{refusal-same, numbers-same, list-same, kept-same}
+use Rattle.c_api.proofs.Handed.{refusal-same, numbers-same, list-same, promised-same}
 use Rattle.c_api.proofs.plant_search_search.Statement.{statement}
 use Rattle.c_api.proofs.plant_search_search.Tie as tie
 
@@ -18,7 +18,7 @@ returns c =
       refusal-same P I (a .out .now) same (e .0),
       (
         numbers-same P I (a .out .now) same (e .0),
-        (list-same P I (a .out .now) same (e .1 .0), λ z. kept-same P I (a .out .now) same (e .1 .1 z)),
+        (list-same P I (a .out .now) same (e .1 .0), λ z. promised-same P I (a .out .now) same (e .1 .1 z)),
       ),
     )
 

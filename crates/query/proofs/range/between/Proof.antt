@@ -1,0 +1,15 @@
+-- `query::range::between` meets its contract, by the tests made.
+use Rattle.laws.proofs.Cases.{cases}
+use Rattle.laws.proofs.Tests.{tests, flags}
+use Rattle.query.proofs.range.between.Statement.{statement}
+use Rattle.query.proofs.range.between.Tie as tie
+use borrow.Author.Tests.{le-leb}
+use mathlib.Core.Path.{sym}
+
+pub between-spec : {M : Type 1} → statement M
+between-spec =
+    tie.close
+    (tie.spec
+    (λ c. cases (c .if1 .came) (λ w. sym (simp tests (omega flags))) (λ w. sym (simp tests (omega flags))))
+    (λ c. let a = c .before .before .args in
+    rw (le-leb (a .low) (a .code) (omega flags), le-leb (a .code) (a .high) (omega flags))))

@@ -1,0 +1,154 @@
+-- What an accepted query is, and its answer from the end of its run.
+use Prim.Native.Nat.{ℕ, zero, suc, _+_, _≤_, _<_}
+use native.Mathlib.Omega.{arith}
+use native.Mathlib.Nat.{zero-add}
+use mathlib.Core.Bool.{false}
+use mathlib.Core.List.{List, [], _∷_, _++_, map, map-append}
+use mathlib.Core.Path.{_≡_, refl, sym, _∙_}
+use denote.Ref.{RefT, now}
+use lib.ListN.{length, getD, take, length-map, length-append}
+use lib.Seq.{take-at}
+use Rattle.laws.specs.Search.{any}
+use Rattle.laws.specs.Tables.{entry}
+use Rattle.laws.proofs.Rows.{otherwise-first, otherwise-next, otherwise-none}
+use Rattle.laws.proofs.Maps.{map-take}
+use Rattle.plant.specs.Plant.{Plant, size}
+use Rattle.plant.proofs.Forest as plants
+use Rattle.index.specs.Postings.{device}
+use Rattle.index.specs.Index as indexes
+use Rattle.index.specs.Index.{Index, count, misplaced-term, list-of}
+use Rattle.index.proofs.Lists.{here, ranged}
+use Rattle.index.proofs.Accepted as index-laws
+use Rattle.index.proofs.Accepted.{SoundList, accepted-list-of}
+use Rattle.steps.specs.Steps as runs
+use Rattle.steps.specs.Steps.{End, placed, run}
+use Rattle.steps.proofs.Kept.{kept}
+use Rattle.query.specs.Query.{required, forbidden, in-range, query-refusal}
+use Rattle.query.specs.declared.Query.{Query}
+use Rattle.query.proofs.Accepted.{Accepted, accepted}
+use Rattle.search.specs.inner.Cursors.{Sound, Lists, Tables, begin, Ends}
+use Rattle.search.specs.Answer.{refusal, criteria, ended, told, written, answer, answer-list}
+use Rattle.search.specs.Promises.{Promised}
+use Rattle.search.specs.declared.Answer.{Answer}
+use Rattle.search.specs.declared.run.Listing.{Listing}
+use Rattle.search.proofs.RunByIndex.{begin-is}
+
+-- a list of an accepted index is one that cursors go along
+sound-list : {last l : List ℕ} → SoundList last l → Sound last l
+sound-list {last} {l} s = record {
+  devices = λ k h.
+      let r = ranged (length last) device l (s .none-misplaced) (k + 1) (omega arith) (omega arith) in
+      let e = here device l k in
+      record { first = omega arith; last = omega arith };
+  sorted = s .sorted;
+  short = s .short;
+}
+
+-- what the rows come to where none applies
+pub record Admitted (P : Plant) (I : Index) (q : Query) (room : ℕ) : Type 0 where
+  pub forest : plants.Sound P
+  pub tables : Tables (P .last) (P .root)
+  pub terms : any (count I) (misplaced-term I) ≡ false
+  pub list : (t : ℕ) → SoundList (P .last) (list-of I t)
+  pub query : Accepted (size P) room q
+
+pub admitted : (P : Plant) (I : Index) (q : Query) (n : ℕ) → refusal P I q n ≡ 0 → Admitted P I q n
+unfolding refusal
+admitted P I q n h =
+    let a = otherwise-none (indexes.refusal P I) (query-refusal (size P) n q) h in
+    let t = index-laws.accepted P I (a .0) in
+    let s = plants.accepted P (t .tables) in
+    record {
+      forest = s;
+      tables = record { same = s .roots; few = s .few; inside = λ d e. s .inside d (e .first) (e .last) };
+      terms = t .terms-rise;
+      list = accepted-list-of P I (a .0);
+      query = accepted (size P) n q (a .1);
+    }
+
+-- the list of the k-th of some terms
+getD-within-map : (f : ℕ → List ℕ) (ts : List ℕ) (k : ℕ) → k < length ts → getD (map f ts) k [] ≡ f (getD ts k 0)
+getD-within-map f [] k h = absurd (omega arith)
+getD-within-map f (t ∷ ts) zero h = refl
+getD-within-map f (t ∷ ts) (suc k) h = getD-within-map f ts k (omega arith)
+
+-- the lists of some terms
+lists-sound : {P : Plant} {I : Index} {q : Query} {n : ℕ} → Admitted P I q n → (ts : List ℕ) → length ts ≤ 16 → Lists (P .last) (map (list-of I) ts)
+lists-sound {P} {I} a ts h = record { few = rw length-map h; each = λ k b. rw (getD-within-map (list-of I) ts k (rw length-map at b)) (sound-list (a .list (getD ts k 0))) }
+
+-- slices that were set to the lists of k terms, and after those to the lists of f more
+module _ (I : Index) (ts us : List ℕ) (slices slices′ : List (RefT (List ℕ))) {k f : ℕ} (e : k ≡ length ts) (g : f ≡ length us)
+    (x : take (0 + length ts) (map now slices) ≡ map (list-of I) ts)
+    (y : take (k + length us) (map now slices′) ≡ take k (map now slices) ++ map (list-of I) us) where
+  lists-are : map now (take (k + f) slices′) ≡ map (list-of I) (ts ++ us)
+  lists-are =
+      let z : take k (map now slices) ≡ map (list-of I) ts = rw e (rw (zero-add (length ts)) at x) in
+      map-take now (k + f) slices′ ∙ rw (g, y, z, map-append)
+
+  pub lists-fit : {P : Plant} {q : Query} {n : ℕ} → Admitted P I q n → k ≤ 8 → f ≤ 8 → Lists (P .last) (map now (take (k + f) slices′))
+  lists-fit a h j = rw lists-are (lists-sound a (ts ++ us) (rw length-append (omega arith)))
+
+  -- a run along those lists begins with the cursors of both kinds of terms
+  pub begins : begin k (map now (take (k + f) slices′)) ≡ placed (list-of I) runs.required ts ++ placed (list-of I) runs.forbidden us
+  begins = rw lists-are (begin-is (list-of I) ts us e)
+
+-- so its end is the end of the steps
+pub run-ended : (P : Plant) (I : Index) (q : Query) {cs : List runs.Cursor} {out out′ : List ℕ} {r : Listing}
+    → cs ≡ placed (list-of I) runs.required (required q) ++ placed (list-of I) runs.forbidden (forbidden q)
+    → Ends (run (P .last) (P .root) (size P + 1) (λ d. in-range (q .levels) (entry (P .level) d)) (size P + 1) (q .budget) (q .start) cs) out out′ r
+    → Ends (ended P I q (q .budget)) out out′ r
+unfolding ended
+run-ended P I q e x = rw e at x
+
+-- ---- the refusal
+
+module _ (P : Plant) (I : Index) (q : Query) (room : ℕ) {t : ℕ} (e : t ≡ indexes.refusal P I) where
+  pub refused-before : (t ≡ 0 → ⊥) → t ≡ refusal P I q room
+  unfolding refusal
+  refused-before z = e ∙ sym (otherwise-first (indexes.refusal P I) _ (λ o. z (e ∙ o)))
+
+  pub refused-here : {r : ℕ} → t ≡ 0 → r ≡ query-refusal (size P) room q → r ≡ refusal P I q room
+  unfolding refusal
+  refused-here z f = f ∙ sym (otherwise-next (indexes.refusal P I) _ (sym e ∙ z))
+
+-- ---- the answer
+
+told-refused : (n : ℕ) (e : End) → (n ≡ 0 → ⊥) → record { refusal = n; count = 0; position = 0; moves = 0 } ≡ told n e
+told-refused zero e h = absurd (h refl)
+told-refused (suc n) e h = refl
+
+written-refused : (n : ℕ) (e : End) (out : List ℕ) → (n ≡ 0 → ⊥) → out ≡ written n e out
+written-refused zero e out h = absurd (h refl)
+written-refused (suc n) e out h = refl
+
+-- the theorem: all that is promised of an accepted query holds of how its steps end
+pub promised : (P : Plant) (I : Index) (q : Query) (room : ℕ) → refusal P I q room ≡ 0 →
+    Promised P I q (ended P I q (q .budget) .listed) (ended P I q (q .budget) .position) (ended P I q (q .budget) .counts .moves)
+unfolding ended
+promised P I q room h =
+    let a = admitted P I q room h in
+    record {
+      passed = ended P I q (q .budget) .counts .passed;
+      short = ended P I q (q .budget) .short;
+      kept = kept P (a .forest) (list-of I) (λ t. a .list t .rising) (criteria P q) (a .query .from-first) (a .query .to-end) (omega arith) (q .budget);
+    }
+
+-- what the contract of `search` says of an answer
+abbrev pub Searched : Plant → Index → Query → List ℕ → List ℕ → Answer → Type 0
+Searched P I q out out′ r =
+    (r ≡ answer P I q (length out)) × ((out′ ≡ answer-list P I q out) × (r .refusal ≡ 0 → Promised P I q (take (r .count) out′) (r .position) (r .moves)))
+
+module _ (P : Plant) (I : Index) (q : Query) {out : List ℕ} {n : ℕ} (e : n ≡ refusal P I q (length out)) where
+  pub searched-refused : (n ≡ 0 → ⊥) → Searched P I q out out (record { refusal = n; count = 0; position = 0; moves = 0 })
+  searched-refused z = (
+    rw e (told-refused (refusal P I q (length out)) _ (λ o. z (e ∙ o))),
+    (written-refused (refusal P I q (length out)) _ out (λ o. z (e ∙ o)), λ o. absurd (z o)),
+  )
+
+  pub searched : {out′ : List ℕ} {r : Listing} → n ≡ 0 → Ends (ended P I q (q .budget)) out out′ r
+      → Searched P I q out out′ (record { refusal = 0; count = r .count; position = r .position; moves = r .moves })
+  searched {out′} {r} z x =
+      let o : refusal P I q (length out) ≡ 0 = sym e ∙ z in
+      let listed = ended P I q (q .budget) .listed in
+      let t : take (length listed) out′ ≡ listed = rw (x .written) (take-at listed _ (length listed) refl) in
+      (rw (o, x .count, x .position, x .moves), (rw o (x .written), λ _. rw (x .count, x .position, x .moves, t) (promised P I q (length out) o)))

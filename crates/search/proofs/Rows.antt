@@ -1,0 +1,72 @@
+-- Document 01's queries over plant P: its starred rows a to j, by computation.
+use Prim.Native.Nat.{ℕ, _-_}
+use mathlib.Core.Path.{_≡_, refl}
+use mathlib.Core.List.{List, [], _∷_, _++_}
+use lib.ListN.{length, replicate}
+use Rattle.laws.specs.Search.{any, lowest}
+use Rattle.plant.specs.Plant as plants
+use Rattle.plant.specs.Plant.{Plant, plant}
+use Rattle.index.specs.Index as indexes
+use Rattle.index.specs.Index.{Index, index, list-of}
+use Rattle.index.specs.Forward.{before}
+use Rattle.steps.specs.Moves.{bring}
+use Rattle.steps.specs.Matching.{count-up, unshared, member, every, matches, matching}
+use Rattle.steps.specs.Steps.{round, run}
+use Rattle.query.specs.Query.{empty}
+use Rattle.query.specs.declared.Levels.{Levels}
+use Rattle.query.specs.declared.Query.{Query}
+use Rattle.search.specs.Answer.{refusal, criteria, ended, answer, answer-list}
+
+-- "P has N = 6, last 6, 3, 3, 6, 5, 6, all roots 1, postings 5, 10, 9."
+abbrev pub P : Plant
+P = plant (6 ∷ 3 ∷ 3 ∷ 6 ∷ 5 ∷ 6 ∷ []) (1 ∷ 1 ∷ 1 ∷ 1 ∷ 1 ∷ 1 ∷ []) (120 ∷ 118 ∷ 255 ∷ 121 ∷ 90 ∷ 119 ∷ [])
+
+abbrev pub I : Index
+I = index (7 ∷ 9 ∷ []) (0 ∷ 2 ∷ []) (5 ∷ 10 ∷ 9 ∷ [])
+
+-- a query with these required and forbidden terms, levels and budget, from device 1 on
+abbrev pub query : List ℕ → List ℕ → Levels → ℕ → Query
+query required forbidden levels budget = record {
+  required = required ++ replicate (8 - length required) 0;
+  «required_count» = length required;
+  forbidden = forbidden ++ replicate (8 - length forbidden) 0;
+  «forbidden_count» = length forbidden;
+  levels = levels;
+  start = 1;
+  budget = budget;
+}
+
+abbrev pub most : ℕ
+most = empty .budget
+
+-- a row: the answer to the query, the answer list of six zeros afterwards, and what matches before the position
+pub record Row (q : Query) (listed : List ℕ) (position moves : ℕ) : Type 0 where
+  pub answers : answer P I q 6 ≡ record { refusal = 0; count = length listed; position = position; moves = moves }
+  pub lists : answer-list P I q (replicate 6 0) ≡ listed ++ replicate (6 - length listed) 0
+  pub exact : matching (matches (P .last) (list-of I) (criteria P q)) (position - 1) 1 ≡ listed
+
+-- rows a to j, in that order
+pub rows :
+    Row (query (7 ∷ []) [] Levels.Any most) (2 ∷ 3 ∷ 5 ∷ []) 7 2
+    × Row (query (9 ∷ []) [] Levels.Any most) (4 ∷ 5 ∷ 6 ∷ []) 7 0
+    × Row (query (7 ∷ []) (9 ∷ []) Levels.Any most) (2 ∷ 3 ∷ []) 7 1
+    × Row (query (9 ∷ []) (7 ∷ []) Levels.Any most) (4 ∷ 6 ∷ []) 7 2
+    × Row (query (7 ∷ []) [] (Levels.Range 100 140) most) (2 ∷ []) 7 2
+    × Row (query (7 ∷ []) (9 ∷ []) Levels.Any 0) (2 ∷ 3 ∷ []) 4 0
+    × Row (query (8 ∷ []) [] Levels.Any most) [] 7 0
+    × Row (query [] (8 ∷ []) Levels.Any most) (1 ∷ 2 ∷ 3 ∷ 4 ∷ 5 ∷ 6 ∷ []) 7 0
+    × Row (query (7 ∷ []) (7 ∷ []) Levels.Any most) [] 7 3
+    × Row (query [] [] (Levels.Range 0 254) most) (1 ∷ 2 ∷ 4 ∷ 5 ∷ 6 ∷ []) 7 0
+unfolding plants.refusal indexes.refusal refusal ended run round bring before any lowest matching every member unshared count-up
+rows = (
+  record { answers = refl; lists = refl; exact = refl },
+  record { answers = refl; lists = refl; exact = refl },
+  record { answers = refl; lists = refl; exact = refl },
+  record { answers = refl; lists = refl; exact = refl },
+  record { answers = refl; lists = refl; exact = refl },
+  record { answers = refl; lists = refl; exact = refl },
+  record { answers = refl; lists = refl; exact = refl },
+  record { answers = refl; lists = refl; exact = refl },
+  record { answers = refl; lists = refl; exact = refl },
+  record { answers = refl; lists = refl; exact = refl },
+)

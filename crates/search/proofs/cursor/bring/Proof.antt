@@ -1,0 +1,60 @@
+-- `search::cursor::bring` meets its contract: from each index on, the cursor goes on as the whole does.
+use Prim.Native.Nat.{_-_}
+use lib.ListN.{length}
+use borrow.Author.Needs.{needs}
+use Rattle.steps.proofs.ByIndex.{Ahead}
+use Rattle.search.proofs.BringByIndex.{going-start, going-ends, going-device, going-past, going-carries, going-spent, going-moves}
+use Rattle.search.proofs.cursor.bring.Statement.{statement}
+use Rattle.search.proofs.cursor.bring.Tie as tie
+
+abbrev Inv-loop : tie.InvT-loop
+Inv-loop last root list from p end left at₀ moves₀ passed₀ at moves passed = Ahead last root list p left from at moves passed
+
+abbrev μ-loop : tie.MeasureT-loop
+μ-loop last root list from p end left at₀ moves₀ passed₀ at moves passed = length list - at
+
+-- the start, seen inside the loop
+abbrev start : tie.In-loop Inv-loop μ-loop → tie.Start Inv-loop μ-loop
+start t = t .before .before .before .before .before
+
+returns-3 : tie.Need-returns-3 Inv-loop μ-loop
+returns-3 c =
+    let t = c .before .before .before .before .before in
+    let s = start t in
+    going-spent (t .before .loop .inv) (s .pre .3) (s .pre .4) (s .pre .1) (t .loop-test .taken) (s .pre .0) (c .before .before .before .if1 .left) (c .before .before .reach .ensures .0) (c .before .if2 .left) (c .if3 .taken)
+
+loop-again : tie.Need-loop-again Inv-loop μ-loop
+loop-again c =
+    let t = c .before .before .before .before .before .before .before in
+    let s = start t in
+    going-moves (t .before .loop .inv) (s .pre .3) (s .pre .4) (s .pre .1) (t .loop-test .taken) (s .pre .0) (c .before .before .before .before .before .if1 .left)
+    (c .before .before .before .before .reach .ensures .0) (c .before .before .before .if2 .left) (c .before .before .if3 .left) (c .before .target .ensures) (c .seek .ensures)
+
+pub bring-spec : {M : Type 1} → statement M
+bring-spec =
+    tie.close
+    (tie.spec
+    Inv-loop
+    μ-loop
+    (λ c. search (needs, going-start))
+    (λ c. search needs)
+    (λ c. search needs)
+    (λ c. search needs)
+    (λ c κs. search needs)
+    (λ c. search (needs, going-past))
+    (λ c. search needs)
+    (λ c κs. search (needs, going-device))
+    (λ c κs. search needs)
+    (λ c. search (needs, going-carries))
+    returns-3
+    (λ c κs. search (needs, going-device))
+    (λ c κs. search needs)
+    (λ c. search needs)
+    (λ c. search needs)
+    (λ c. search needs)
+    (λ c. search needs)
+    (λ c. search needs)
+    loop-again
+    (λ c. search needs)
+    (λ c κs. search needs)
+    (λ c. search (needs, going-ends)))

@@ -1,0 +1,102 @@
+-- How the code's indexes into lists stand for the definitions' cursors. The contracts of private functions alone cite this.
+use Prim.Native.Nat.{ℕ, suc, _+_, _-_, _≤_, _<_}
+use mathlib.Core.Path.{_≡_}
+use mathlib.Core.Bool.{Bool, true, false, cond}
+use mathlib.Core.List.{List, [], _∷_, _++_}
+use lib.Dec.{ltb}
+use lib.ListN.{length, getD, drop, replicate}
+use lib.Seq.{sets}
+use Rattle.laws.specs.Tables.{entry, IsEntry}
+use Rattle.index.specs.Postings.{device}
+use Rattle.steps.specs.Moves as steps
+use Rattle.steps.specs.Moves.{behind}
+use Rattle.steps.specs.Steps as runs
+use Rattle.steps.specs.Steps.{Side, required, forbidden, Outcome, accepts, again, stops}
+use Rattle.steps.specs.Matching.{matching}
+use Rattle.steps.proofs.Stretch.{Rests, Accept}
+use Rattle.search.specs.declared.cursor.Brought.{Brought}
+use Rattle.search.specs.declared.run.Round.{Round}
+use Rattle.search.specs.declared.run.Listing.{Listing}
+
+-- each posting of a list is of a device, and devices do not fall
+pub record Sound (last l : List ℕ) : Type 0 where
+  pub devices : (k : ℕ) → k < length l → IsEntry last (device (getD l k 0))
+  pub sorted : (j k : ℕ) → j ≤ k → k < length l → device (getD l j 0) ≤ device (getD l k 0)
+  pub short : length l ≤ 1048576
+
+-- a cursor at an index of a sound list: it stands for what is left of the list
+pub record Cursor (last l : List ℕ) (i : ℕ) : Type 0 where
+  pub sound : Sound last l
+  pub within : i ≤ length l
+
+-- device tables that cursors go by: a branch ends in the plant
+pub record Tables (last root : List ℕ) : Type 0 where
+  pub same : length root ≡ length last
+  pub few : length last ≤ 65535
+  pub inside : (d : ℕ) → IsEntry last d → entry last d ≤ length last
+
+-- the cursor at index f has been brought to position p, with n moves left
+pub record Brings (last root l : List ℕ) (end p n f : ℕ) (r : Brought) : Type 0 where
+  pub within : r .at ≤ length l
+  pub few : r .moves ≤ n
+  pub small : r .moves + r .passed ≤ r .at
+  pub same : steps.bring last root p n (drop f l)
+      ≡ record { cursor = drop (r .at) l; counts = record { moves = r .moves; passed = r .passed } }
+  pub stops : r .spent ≡ true → behind last p (drop (r .at) l) ≡ true
+  pub bound : r .spent ≡ false → r .to ≤ length last
+  pub rests : r .spent ≡ false → Rests last end (drop (r .at) l) p (r .carries) (r .to)
+
+-- the cursors from number i on, of which the first k are of required terms: what is left of each list
+abbrev pub side-of : ℕ → ℕ → Side
+side-of k i = cond (ltb i k) required forbidden
+
+unfoldable pub cursors : ℕ → List ℕ → ℕ → List (List ℕ) → List runs.Cursor
+cursors k at i [] = []
+cursors k at i (l ∷ ls) = record { side = side-of k i; left = drop (getD at i 0) l } ∷ cursors k at (suc i) ls
+
+pub record Valid (last : List ℕ) (ls : List (List ℕ)) (at : List ℕ) : Type 0 where
+  pub long : length at ≡ 16
+  pub few : length ls ≤ 16
+  pub each : (k : ℕ) → k < length ls → Cursor last (getD ls k []) (getD at k 0)
+
+-- what the code's round says
+abbrev pub told : Round → Outcome
+told r = cond (r .stop) stops (cond (r .accepted) accepts (again (r .to + 1)))
+
+-- a round has been made at position p, with n moves left: the cursors go from `at` to `at′`. Where all accept p, they do at each position up to
+-- the round's last.
+pub record Turns (last root : List ℕ) (ls : List (List ℕ)) (k end p n : ℕ) (at at′ : List ℕ) (r : Round) : Type 0 where
+  pub valid : Valid last ls at′
+  pub few : r .moves ≤ n
+  pub from : p ≤ r .to
+  pub same : runs.round last root end p n (cursors k at 0 ls)
+      ≡ record { cursors = cursors k at′ 0 ls; counts = record { moves = r .moves; passed = r .passed }; outcome = told r }
+  pub bound : r .stop ≡ false → r .to ≤ length last
+  pub inside : r .accepted ≡ true → r .to < end
+  pub steady : r .accepted ≡ true → (q : ℕ) → p ≤ q → q ≤ r .to → Accept last end q (cursors k at′ 0 ls)
+
+-- lists that cursors go along: eight at most of required terms, and eight of forbidden ones
+pub record Lists (last : List ℕ) (ls : List (List ℕ)) : Type 0 where
+  pub few : length ls ≤ 16
+  pub each : (k : ℕ) → k < length ls → Sound last (getD ls k [])
+
+-- where a run begins: each cursor on the first posting of its list
+abbrev pub begin : ℕ → List (List ℕ) → List runs.Cursor
+begin k ls = cursors k (replicate 16 0) 0 ls
+
+-- what is listed of the positions from p to `to`, where they are accepted
+abbrev pub stretch : Bool → (ℕ → Bool) → ℕ → ℕ → List ℕ
+stretch accepted ok p to = cond accepted (matching ok (to + 1 - p) p) []
+
+-- it has been written, after the first `count` entries
+pub record Writes (accepted : Bool) (ok : ℕ → Bool) (p to : ℕ) (out out′ : List ℕ) (count count′ : ℕ) : Type 0 where
+  pub written : out′ ≡ sets out count (stretch accepted ok p to)
+  pub long : count′ ≡ count + length (stretch accepted ok p to)
+
+-- a run's end, as the code gives it: the listing stands at the front of what was lent, and the rest of that is kept
+pub record Ends (e : runs.End) (out out′ : List ℕ) (r : Listing) : Type 0 where
+  pub written : out′ ≡ e .listed ++ drop (length (e .listed)) out
+  pub count : r .count ≡ length (e .listed)
+  pub position : r .position ≡ e .position
+  pub moves : r .moves ≡ e .counts .moves
+  pub passed : r .passed ≡ e .counts .passed

@@ -1,0 +1,112 @@
+// One cursor: an index into a sorted list of postings.
+ghost use mathlib.Core.Path.{_≡_};
+ghost use Prim.Native.Nat.{_+_, _≤_, _<_};
+ghost use lib.ListN.{length};
+ghost use mathlib.Core.Bool.{false};
+ghost use Rattle.laws.specs.Tables.{entry, IsEntry};
+ghost use Rattle.index.specs.Postings.{device, reach};
+ghost use Rattle.search.specs.inner.Cursors.{Tables, Cursor, Brings};
+ghost use Rattle.steps.proofs.ByIndex.{target};
+use index::seek;
+
+// The entry of device d.
+fn entry_of(table: &[u16], d: u32) -> u32
+    requires { ⌜ IsEntry (now table) d ⌝ }
+    ensures { λ r. ⌜ (r ≡ entry (now (table .entry)) d) × (r < 65536) ⌝ }
+{
+    let i = (d - 1) as usize;
+    table[i] as u32
+}
+
+// The last device that posting q carries its term to. The table is read before it is known whether the posting is shared: the choice is then
+// no branch to be guessed.
+fn reach(last: &[u16], q: u32) -> u32
+    requires { ⌜ IsEntry (now last) (device q) ⌝ }
+    ensures { λ r. ⌜ (r ≡ reach (now (last .entry)) q) × (r < 2147483648) ⌝ }
+{
+    let end = entry_of(last, q / 2);
+    if q % 2 == 1 { end } else { q / 2 }
+}
+
+// The device that a move from posting q towards position p goes to; 0: the next posting.
+fn target(last: &[u16], root: &[u16], p: u32, q: u32) -> u32
+    requires { ⌜ IsEntry (now last) (device q) × IsEntry (now root) p ⌝ }
+    ensures { λ r. ⌜ r ≡ target (now (last .entry)) (now (root .entry)) p q ⌝ }
+{
+    let d = q / 2;
+    let top = entry_of(root, p);
+    if d < top {
+        return top;
+    }
+    let end = entry_of(last, d);
+    if end < p { end + 1 } else { 0 }
+}
+
+// A cursor brought to a position: its index, the moves made and the postings that they passed over, whether its posting carries to the
+// position, and the last position up to which that stays so without a move; or that it needs one move more than are left.
+pub struct Brought {
+    pub at: usize,
+    pub moves: u32,
+    pub passed: u32,
+    pub carries: bool,
+    pub to: u32,
+    pub spent: bool,
+}
+
+fn stays(at: usize, moves: u32, passed: u32, carries: bool, to: u32) -> Brought
+    ensures { λ r. ⌜ r ≡ record { at = at; moves = moves; passed = passed; carries = carries; to = to; spent = false } ⌝ }
+{
+    Brought {
+        at,
+        moves,
+        passed,
+        carries,
+        to,
+        spent: false,
+    }
+}
+
+// Brings the cursor at index `from` of a list to position p, with `left` moves left.
+pub fn bring(
+    last: &[u16],
+    root: &[u16],
+    list: &[u32],
+    from: usize,
+    p: u32,
+    end: u32,
+    left: u32,
+) -> Brought
+    requires { ⌜ Tables (now last) (now root) × Cursor (now last) (now list) from × IsEntry (now last) p × (p < end) × (end ≤ length (now last) + 1) ⌝ }
+    ensures { λ r. ⌜ Brings (now (last .entry)) (now (root .entry)) (now (list .entry)) end p left from r ⌝ }
+{
+    let mut at = from;
+    let mut moves: u32 = 0;
+    let mut passed: u32 = 0;
+    while at < list.len() {
+        let q = list[at];
+        if p < q / 2 {
+            return stays(at, moves, passed, false, q / 2 - 1);
+        }
+        let next = at + 1;
+        let reached = reach(last, q);
+        if p <= reached {
+            return stays(at, moves, passed, true, reached);
+        }
+        if left <= moves {
+            return Brought {
+                at,
+                moves,
+                passed,
+                carries: false,
+                to: p,
+                spent: true,
+            };
+        }
+        let device = target(last, root, p, q);
+        let found = seek(list, next, device);
+        passed += (found - next) as u32;
+        moves += 1;
+        at = found;
+    }
+    stays(at, moves, passed, false, end - 1)
+}

@@ -1,0 +1,57 @@
+// The search: the devices that match a query, by document 01's cursor steps.
+ghost use mathlib.Core.Path.{_≡_};
+ghost use lib.ListN.{length, take};
+ghost use Rattle.plant.specs.Plant.{plant};
+ghost use Rattle.index.specs.Index.{index};
+ghost use Rattle.search.specs.Answer.{answer, answer-list};
+ghost use Rattle.search.specs.Promises.{Promised};
+use lists::answered;
+use query::Query;
+use refusals::refusal;
+
+mod cursor;
+mod lists;
+mod refusals;
+mod run;
+
+// What a search answers: the refusal and zeros, or 0, the number of devices listed, the position and the moves.
+pub struct Answer {
+    pub refusal: u32,
+    pub count: u32,
+    pub position: u32,
+    pub moves: u32,
+}
+
+// The devices that match a query, from its start on, within its budget of moves. One call checks the tables, the index and the query, in that
+// order. The listing goes to the front of `out`, the other entries of which are kept; a refusal keeps all.
+pub fn search(
+    last: &[u16],
+    root: &[u16],
+    level: &[u8],
+    terms: &[u16],
+    starts: &[u32],
+    postings: &[u32],
+    query: Query,
+    out: &mut [u16],
+) -> Answer
+    ensures { λ r. ⌜ r ≡ answer (plant (now (last .entry)) (now (root .entry)) (now (level .entry))) (index (now (terms .entry)) (now (starts .entry)) (now (postings .entry))) query (length (now (out .entry))) ⌝ }
+    ensures { λ r. ⌜ now (out .exit) ≡ answer-list (plant (now (last .entry)) (now (root .entry)) (now (level .entry))) (index (now (terms .entry)) (now (starts .entry)) (now (postings .entry))) query (now (out .entry)) ⌝ }
+    ensures { λ r. ⌜ (r .refusal ≡ 0 → Promised (plant (now (last .entry)) (now (root .entry)) (now (level .entry))) (index (now (terms .entry)) (now (starts .entry)) (now (postings .entry))) query (take (r .count) (now (out .exit))) (r .position) (r .moves)) ⌝ }
+{
+    let refused = refusal(last, root, level, terms, starts, postings, query, out.len());
+    if refused != 0 {
+        return Answer {
+            refusal: refused,
+            count: 0,
+            position: 0,
+            moves: 0,
+        };
+    }
+    let listing = answered(last, root, level, terms, starts, postings, query, out);
+    Answer {
+        refusal: 0,
+        count: listing.count,
+        position: listing.position,
+        moves: listing.moves,
+    }
+}

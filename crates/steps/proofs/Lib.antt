@@ -1,0 +1,11 @@
+pub mod Outcomes
+pub mod Counts
+pub mod Brings
+pub mod Rounds
+pub mod Matching
+pub mod Runs
+pub mod Exact
+pub mod Kept
+pub mod Example
+pub mod ByIndex
+pub mod Stretch
