@@ -2,7 +2,7 @@
 use Prim.Native.Nat.{ℕ}
 use mathlib.Core.Path.{_≡_, ap, subst}
 use mathlib.Core.List.{List}
-use lib.ListN.{length, take}
+use lib.ListN.{length}
 use Rattle.plant.specs.Plant.{Plant}
 use Rattle.index.specs.Index.{Index}
 use Rattle.query.specs.declared.Query.{Query}

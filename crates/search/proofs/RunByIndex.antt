@@ -8,7 +8,7 @@ use lib.Seq.{length-sets}
 use mathlib.Core.Path.{_≡_, refl, sym, ap, ap₂, subst, _∙_}
 use borrow.Author.Tests.{lt-ltb, le-ltb}
 use Rattle.steps.specs.Matching.{matching}
-use Rattle.steps.specs.Steps.{required, forbidden, placed, Cursor, End, ends, counted, listing, run, total}
+use Rattle.steps.specs.Steps.{required, forbidden, placed, End, ends, counted, listing, run, total}
 use Rattle.steps.proofs.Counts.{run-by, run-over, round-tallies}
 use Rattle.steps.proofs.Stretch.{led, listing-led, counted-none, run-still}
 use Rattle.search.specs.inner.Cursors.{Tables, Valid, Lists, cursors, begin, stretch, Turns, Writes, Ends}

@@ -11,10 +11,10 @@ use Rattle.plant.specs.Plant.{Plant, size}
 use Rattle.plant.proofs.Forest.{Sound}
 use Rattle.index.proofs.Accepted.{Rising}
 use Rattle.steps.specs.Matching.{Criteria, matches}
-use Rattle.steps.specs.Steps.{End, ends, run, cursors, steps, named}
+use Rattle.steps.specs.Steps.{End, run, cursors, steps, named}
 use Rattle.steps.specs.Promises.{Kept}
 use Rattle.steps.proofs.Matching.{matching-same, matching-has, matching-of}
-use Rattle.steps.proofs.Counts.{Ended, ended, fuel, run-over, run-alike}
+use Rattle.steps.proofs.Counts.{Ended, ended, fuel, run-alike}
 use Rattle.steps.proofs.Runs.{lists}
 use Rattle.steps.proofs.Exact.{matches-wanted, cursors-rise}
 
@@ -69,10 +69,6 @@ module _ (P : Plant) (S : Sound P) (list : ℕ → List ℕ) (rise : (t : ℕ) �
         enough = λ h. let t = sym (R .stopped) ∙ complete budget h in omega (flags, R .most);
       }
 
--- "With a start beyond that, nothing is listed and the place is the same."
-pub beyond : (last root : List ℕ) (list : ℕ → List ℕ) (a : Criteria) (budget : ℕ) → 1 ≤ a .end → a .end ≤ a .start → steps last root list a budget ≡ ends (a .end) false
-beyond last root list a budget = run-over last root (a .end) (a .ok) (a .end) budget (a .start) (cursors list a)
-
 -- what a listing holds: the devices from the start up to the position that match
 pub listed-has : (last root : List ℕ) (list : ℕ → List ℕ) (a : Criteria) (budget : ℕ) (e : End) → Kept last root list a budget e → (d : ℕ) →
     List·Memᴰ d (e .listed) ↔ ((a .start ≤ d) × (d < e .position) × (matches last list a d ≡ true))
@@ -80,10 +76,3 @@ listed-has last root list a budget e k d = (
   (λ m. let w = matching-has (matches last list a) (e .position - a .start) (a .start) d (rw (k .exact) at m) in (w .0, omega flags, w .2)),
   λ h. rw (k .exact) (matching-of (matches last list a) (e .position - a .start) (a .start) d (h .0) (omega flags) (h .2)),
 )
-
--- two criteria with one start and one end, over whatever plants and lists: where the same devices match in between, complete listings are equal
-pub same-listing : {last root last′ root′ : List ℕ} {list list′ : ℕ → List ℕ} {a a′ : Criteria} {budget budget′ : ℕ} {e e′ : End} →
-    Kept last root list a budget e → Kept last′ root′ list′ a′ budget′ e′ → a .start ≡ a′ .start → e .position ≡ a .end → e′ .position ≡ a .end →
-    ((d : ℕ) → a .start ≤ d → d < a .end → matches last list a d ≡ matches last′ list′ a′ d) → e .listed ≡ e′ .listed
-same-listing {last} {root} {last′} {root′} {list} {list′} {a} {a′} k k′ s p p′ h =
-    k .exact ∙ rw (p, matching-same (matches last list a) (matches last′ list′ a′) (a .end - a .start) (a .start) (λ d i j. h d i (omega flags)), s, ← p′) (sym (k′ .exact))

@@ -14,7 +14,7 @@ pub record Kept (last root : List ℕ) (list : ℕ → List ℕ) (a : Criteria) 
   pub exact : e .listed ≡ matching (matches last list a) (e .position - a .start) (a .start)
   pub from-start : a .start ≤ e .position
   pub to-end : e .position ≤ a .end
-  -- the moves never exceed the budget; "Moves and passed together never exceed the postings of the lists named."
+  -- the moves never exceed the budget, and with the postings that they passed over never the postings of the lists named
   pub within : e .counts .moves ≤ budget
   pub few : e .counts .moves + e .counts .passed ≤ named list a
   -- it is short where its position is before the end. It has then made every move of the budget, and with one move more it would make that too.

@@ -18,7 +18,7 @@ use Rattle.search.specs.declared.cursor.Brought.{Brought}
 use Rattle.search.specs.declared.run.Round.{Round}
 use Rattle.search.specs.declared.run.Listing.{Listing}
 
--- each posting of a list is of a device, and devices do not fall
+-- each posting of a list is of a device, devices do not fall, and the postings are no more than an index holds
 pub record Sound (last l : List ℕ) : Type 0 where
   pub devices : (k : ℕ) → k < length l → IsEntry last (device (getD l k 0))
   pub sorted : (j k : ℕ) → j ≤ k → k < length l → device (getD l j 0) ≤ device (getD l k 0)
@@ -60,8 +60,8 @@ pub record Valid (last : List ℕ) (ls : List (List ℕ)) (at : List ℕ) : Type
   pub each : (k : ℕ) → k < length ls → Cursor last (getD ls k []) (getD at k 0)
 
 -- what the code's round says
-abbrev pub told : Round → Outcome
-told r = cond (r .stop) stops (cond (r .accepted) accepts (again (r .to + 1)))
+abbrev pub said : Round → Outcome
+said r = cond (r .stop) stops (cond (r .accepted) accepts (again (r .to + 1)))
 
 -- a round has been made at position p, with n moves left: the cursors go from `at` to `at′`. Where all accept p, they do at each position up to
 -- the round's last.
@@ -70,7 +70,7 @@ pub record Turns (last root : List ℕ) (ls : List (List ℕ)) (k end p n : ℕ)
   pub few : r .moves ≤ n
   pub from : p ≤ r .to
   pub same : runs.round last root end p n (cursors k at 0 ls)
-      ≡ record { cursors = cursors k at′ 0 ls; counts = record { moves = r .moves; passed = r .passed }; outcome = told r }
+      ≡ record { cursors = cursors k at′ 0 ls; counts = record { moves = r .moves; passed = r .passed }; outcome = said r }
   pub bound : r .stop ≡ false → r .to ≤ length last
   pub inside : r .accepted ≡ true → r .to < end
   pub steady : r .accepted ≡ true → (q : ℕ) → p ≤ q → q ≤ r .to → Accept last end q (cursors k at′ 0 ls)
