@@ -41,7 +41,6 @@ sound-list {last} {l} s = record {
       let e = here device l k in
       record { first = omega arith; last = omega arith };
   sorted = s .sorted;
-  short = s .short;
 }
 
 -- what the rows come to where none applies

@@ -17,26 +17,31 @@ use Rattle.steps.proofs.Stretch.{Rests}
 use Rattle.search.specs.inner.Cursors.{Cursor, Tables, Brings}
 use Rattle.search.specs.declared.cursor.Brought.{Brought}
 
-pub going-start : {last root l : List ℕ} {p n f : ℕ} → Cursor last l f → Ahead last root l p n f f 0 0
-going-start k = ahead-start (k .within)
+-- the cursor, brought from index f after m₀ moves of a budget, is at index i after m
+pub record Going (last root l : List ℕ) (p budget m₀ f i m : ℕ) : Type 0 where
+  pub ahead : Ahead last root l p (budget - m₀) f i (m - m₀)
+  pub more : m₀ ≤ m
+  pub few : m ≤ budget
 
--- the cursor, brought from index f with n moves left, is at index i
-module _ {last root l : List ℕ} {end p n f i moves passed : ℕ} (a : Ahead last root l p n f i moves passed) (e : p < end) (w : end ≤ length last + 1) where
+pub going-start : {last root l : List ℕ} {p budget m f : ℕ} → Cursor last l f → m ≤ budget → Going last root l p budget m f f m
+going-start {m} k h = let u : m - m ≡ 0 = omega arith in record { ahead = rw u (ahead-start (k .within)); more = omega arith; few = h }
+
+module _ {last root l : List ℕ} {end p budget m₀ f i m : ℕ} (a : Going last root l p budget m₀ f i m) (e : p < end) (w : end ≤ length last + 1) where
   -- it has been brought to p, where it rests
   going-rests : {b : Bool} {to : ℕ} {r : Brought} → behind last p (drop i l) ≡ false → to ≤ length last → Rests last end (drop i l) p b to
-      → r ≡ record { at = i; moves = moves; passed = passed; carries = b; to = to; spent = false } → Brings last root l end p n f r
+      → r ≡ record { at = i; moves = m; carries = b; to = to; spent = false } → Brings last root l end p budget m₀ f r
   going-rests h t s o = rw o (record {
-    within = a .within;
+    within = a .ahead .within;
+    more = a .more;
     few = a .few;
-    small = a .small;
-    same = ahead-ends a h;
+    same = ahead-ends (a .ahead) h;
     stops = λ z. absurd (false≢true z);
     bound = λ z. t;
     rests = λ z. s;
   })
 
-  pub going-ends : {r : Brought} → length l ≤ i → r ≡ record { at = i; moves = moves; passed = passed; carries = false; to = end - 1; spent = false }
-      → Brings last root l end p n f r
+  pub going-ends : {r : Brought} → length l ≤ i → r ≡ record { at = i; moves = m; carries = false; to = end - 1; spent = false }
+      → Brings last root l end p budget m₀ f r
   going-ends h =
       let d = drop-of-length-le l {i = i} h in
       going-rests (rw d refl) (omega arith) (rw d (record { from = omega arith; here = simp tests (omega flags); next = omega arith }))
@@ -46,15 +51,15 @@ module _ {last root l : List ℕ} {end p n f i moves passed : ℕ} (a : Ahead la
     going-device = c .sound .devices i h
 
     pub going-past : {r : Brought} → p < device (getD l i 0)
-        → r ≡ record { at = i; moves = moves; passed = passed; carries = false; to = device (getD l i 0) - 1; spent = false } → Brings last root l end p n f r
+        → r ≡ record { at = i; moves = m; carries = false; to = device (getD l i 0) - 1; spent = false } → Brings last root l end p budget m₀ f r
     going-past g =
         let d = drop-cons l i 0 h in
         let v = going-device in
         going-rests (rw d (simp tests (omega flags))) (omega arith) (rw d (record { from = omega arith; here = simp tests (omega flags); next = omega arith }))
 
     module _ (b : Tables last root) (g : device (getD l i 0) ≤ p) {reached : ℕ} (x : reached ≡ reach last (getD l i 0)) where
-      pub going-carries : {r : Brought} → p ≤ reached → r ≡ record { at = i; moves = moves; passed = passed; carries = true; to = reached; spent = false }
-          → Brings last root l end p n f r
+      pub going-carries : {r : Brought} → p ≤ reached → r ≡ record { at = i; moves = m; carries = true; to = reached; spent = false }
+          → Brings last root l end p budget m₀ f r
       going-carries z =
           let d = drop-cons l i 0 h in
           let v = going-device in
@@ -65,20 +70,19 @@ module _ {last root l : List ℕ} {end p n f i moves passed : ℕ} (a : Ahead la
         still-behind : behind last p (drop i l) ≡ true
         still-behind = rw (drop-cons l i 0 h) (simp tests (omega flags))
 
-        pub going-spent : n ≤ moves → {to : ℕ} → Brings last root l end p n f (record { at = i; moves = moves; passed = passed; carries = false; to = to; spent = true })
+        pub going-spent : budget ≤ m → {to : ℕ} → Brings last root l end p budget m₀ f (record { at = i; moves = m; carries = false; to = to; spent = true })
         going-spent y = record {
-          within = a .within;
+          within = a .ahead .within;
+          more = a .more;
           few = a .few;
-          small = a .small;
-          same = ahead-spent a y;
+          same = ahead-spent (a .ahead) (omega arith);
           stops = λ w. still-behind;
           bound = λ w. absurd (true≢false w);
           rests = λ w. absurd (true≢false w);
         }
 
-        pub going-moves : {t j : ℕ} → moves < n → t ≡ target last root p (getD l i 0) → Sought l (i + 1) t j
-            → Ahead last root l p n f j (moves + 1) (passed + (j - (i + 1)))
+        pub going-moves : {t j : ℕ} → m < budget → t ≡ target last root p (getD l i 0) → Sought l (i + 1) t j → Going last root l p budget m₀ f j (m + 1)
         going-moves {t} {j} y q s =
             let w : j ≡ forward l (i + 1) (target last root p (getD l i 0)) = rw (← q) (s .sorted (λ a b _ d e. c .sound .sorted a b d e)) in
-            let v : j - (i + 1) ≡ j - i - 1 = omega arith in
-            rw v (ahead-moves a h still-behind y w)
+            let u : m + 1 - m₀ ≡ m - m₀ + 1 = omega (arith, a .more) in
+            record { ahead = rw u (ahead-moves (a .ahead) h still-behind (omega (arith, a .more)) w); more = omega (arith, a .more); few = omega arith }

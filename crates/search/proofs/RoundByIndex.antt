@@ -1,5 +1,5 @@
 -- Laws of a round of all cursors by index, on plain values.
-use Prim.Native.Nat.{ℕ, suc, _+_, _-_, _*_, _≤_, _<_, min}
+use Prim.Native.Nat.{ℕ, suc, _+_, _-_, _≤_, _<_, min}
 use native.Mathlib.Omega.{arith}
 use native.Mathlib.Numerals.{add-one}
 use native.Mathlib.Nat.{zero-add, add-zero}
@@ -112,18 +112,19 @@ leads cs n r = record { cursors = cs ++ r .cursors; counts = plus n (r .counts);
 abbrev pub counts : ℕ → ℕ → Counts
 counts m p = record { moves = m; passed = p }
 
--- the cursors before i, of m, are done, and accept each position from p to `to`: those from i on, with the moves left, give what the whole gives
-pub record Doing (last root : List ℕ) (ls : List (List ℕ)) (m k end p n : ℕ) (x₀ x : List ℕ) (moves passed to i : ℕ) : Type 0 where
-  pub count : length ls ≡ m
+-- the cursors before i, of n, are done, and accept each position from p to `to`: those from i on, with the moves left, give what the whole gives
+pub record Doing (last root : List ℕ) (ls : List (List ℕ)) (n k end p budget m₀ : ℕ) (x₀ x : List ℕ) (m to i : ℕ) : Type 0 where
+  pub count : length ls ≡ n
   pub valid : Valid last ls x
   pub within : i ≤ length ls
-  pub few : moves ≤ n
-  pub small : moves + passed ≤ i * 1048576
+  pub passed : ℕ
+  pub more : m₀ ≤ m
+  pub few : m ≤ budget
   pub from : p ≤ to
   pub inside : to < end
   pub bound : to ≤ length last
-  pub same : round last root end p n (cursors k x₀ 0 ls)
-      ≡ leads (cursors k x 0 (take i ls)) (counts moves passed) (round last root end p (n - moves) (cursors k x i (drop i ls)))
+  pub same : round last root end p (budget - m₀) (cursors k x₀ 0 ls)
+      ≡ leads (cursors k x 0 (take i ls)) (counts (m - m₀) passed) (round last root end p (budget - m) (cursors k x i (drop i ls)))
   pub steady : (q : ℕ) → p ≤ q → q ≤ to → Accept last end q (cursors k x 0 (take i ls))
 
 round-same : {cs ds : List runs.Cursor} {m n p q : ℕ} {o : Outcome} → cs ≡ ds → m ≡ n → p ≡ q
@@ -138,15 +139,16 @@ accept-more last end q (d ∷ ds) c a e = (a .0, accept-more last end q ds c (a 
 leads-none : (r : runs.Round) → r ≡ leads [] (counts 0 0) r
 leads-none r = ap (λ n. record { cursors = r .cursors; counts = n; outcome = r .outcome }) (ap₂ counts (omega arith) (omega arith))
 
-pub doing-start : {last root : List ℕ} {ls : List (List ℕ)} {m k end p n : ℕ} {x : List ℕ} → Valid last ls x → p < end → end ≤ length last + 1 → length ls ≡ m
-    → Doing last root ls m k end p n x x 0 0 (end - 1) 0
+pub doing-start : {last root : List ℕ} {ls : List (List ℕ)} {n k end p budget m : ℕ} {x : List ℕ} → Valid last ls x → p < end → end ≤ length last + 1 → m ≤ budget → length ls ≡ n
+    → Doing last root ls n k end p budget m x x m (end - 1) 0
 unfolding cursors
-doing-start {n} v h w e = let u : n - 0 ≡ n = omega arith in record {
+doing-start {m} v h w b e = let u : m - m ≡ 0 = omega arith in record {
   count = e;
+  passed = 0;
   valid = v;
   within = omega arith;
-  few = omega arith;
-  small = omega arith;
+  more = omega arith;
+  few = b;
   from = omega arith;
   inside = omega arith;
   bound = omega arith;
@@ -154,12 +156,14 @@ doing-start {n} v h w e = let u : n - 0 ≡ n = omega arith in record {
   steady = λ q a b. tt;
 }
 
-module _ {last root : List ℕ} {ls : List (List ℕ)} {m k end p n : ℕ} {x₀ x : List ℕ} {moves passed to i : ℕ}
-    (a : Doing last root ls m k end p n x₀ x moves passed to i) where
-  pub doing-ends : m ≤ i → {r : Round} → r ≡ record { moves = moves; passed = passed; to = to; accepted = true; stop = false } → Turns last root ls k end p n x₀ x r
+module _ {last root : List ℕ} {ls : List (List ℕ)} {n k end p budget m₀ : ℕ} {x₀ x : List ℕ} {m to i : ℕ}
+    (a : Doing last root ls n k end p budget m₀ x₀ x m to i) where
+  pub doing-ends : n ≤ i → {r : Round} → r ≡ record { moves = m; to = to; accepted = true; stop = false } → Turns last root ls k end p budget m₀ x₀ x r
   unfolding cursors round
   doing-ends h o = let e : i ≡ length ls = omega arith in rw o (record {
     valid = a .valid;
+    passed = a .passed;
+    more = a .more;
     few = a .few;
     from = a .from;
     same = a .same ∙ rw (e, drop-length, take-length, append-nil) (round-same refl (omega arith) (omega arith));
@@ -168,7 +172,7 @@ module _ {last root : List ℕ} {ls : List (List ℕ)} {m k end p n : ℕ} {x₀
     steady = λ z q u v. rw (e, take-length) at (a .steady q u v);
   })
 
-  module _ (h : i < m) where
+  module _ (h : i < n) where
     inside : i < length ls
     inside = omega arith
 
@@ -181,7 +185,7 @@ module _ {last root : List ℕ} {ls : List (List ℕ)} {m k end p n : ℕ} {x₀
     pub here : {l : List ℕ} → l ≡ getD ls i [] → Cursor last l (getD x i 0)
     here e = rw e (a .valid .each i inside)
 
-    module _ {l : List ℕ} {b : Brought} (g : Brings last root l end p (n - moves) (getD x i 0) b) (o : l ≡ getD ls i []) where
+    module _ {l : List ℕ} {b : Brought} (g : Brings last root l end p budget m (getD x i 0) b) (o : l ≡ getD ls i []) where
       abbrev x′ : List ℕ
       x′ = set x i (b .at)
 
@@ -191,35 +195,38 @@ module _ {last root : List ℕ} {ls : List (List ℕ)} {m k end p n : ℕ} {x₀
       abbrev rest : List runs.Cursor
       rest = cursors k x (i + 1) (drop (i + 1) ls)
 
+      -- what has been passed over
+      abbrev passed : ℕ
+      passed = a .passed + (b .at - getD x i 0 - (b .moves - m))
+
       -- the round from cursor i on, by what comes of that cursor
       first : (c : Outcome) → outcome last end p (side-of k i) (drop (b .at) l) ≡ c →
-          round last root end p (n - moves) (cursors k x i (drop i ls))
-          ≡ onto (placed k i l (b .at)) (counts (b .moves) (b .passed)) (elim c [
-            | accepts ↦ round last root end p (n - moves - b .moves) rest
+          round last root end p (budget - m) (cursors k x i (drop i ls))
+          ≡ onto (placed k i l (b .at)) (counts (b .moves - m) (b .at - getD x i 0 - (b .moves - m))) (elim c [
+            | accepts ↦ round last root end p (budget - m - (b .moves - m)) rest
             | again q ↦ unmoved-all rest (again q)
             | stops ↦ unmoved-all rest stops
           ])
-      first c e = rw (cursors-from k x ls i inside, ← o) (round-by last root end p (n - moves) (placed k i l (getD x i 0)) rest _ c (g .same) e)
-
-      pub small-more : moves + b .moves + (passed + b .passed) ≤ (i + 1) * 1048576
-      small-more = let s = here o in omega (arith, s .sound .short, g .small, g .within, a .small)
+      first c e = rw (cursors-from k x ls i inside, ← o) (round-by last root end p (budget - m) (placed k i l (getD x i 0)) rest _ c (g .same) e)
 
       -- the round ends at cursor i
       ends : (c : Outcome) → outcome last end p (side-of k i) (drop (b .at) l) ≡ c → unmoved-all rest c ≡ (elim c [
-        | accepts ↦ round last root end p (n - moves - b .moves) rest
+        | accepts ↦ round last root end p (budget - m - (b .moves - m)) rest
         | again q ↦ unmoved-all rest (again q)
         | stops ↦ unmoved-all rest stops
-      ]) → round last root end p n (cursors k x₀ 0 ls) ≡ record { cursors = cursors k x′ 0 ls; counts = counts (moves + b .moves) (passed + b .passed); outcome = c }
+      ]) → round last root end p (budget - m₀) (cursors k x₀ 0 ls) ≡ record { cursors = cursors k x′ 0 ls; counts = counts (b .moves - m₀) passed; outcome = c }
       ends c e u =
           a .same
-          ∙ ap (leads (cursors k x 0 (take i ls)) (counts moves passed)) (first c e ∙ ap (onto (placed k i l (b .at)) (counts (b .moves) (b .passed))) (sym u))
-          ∙ round-same (sym (put-all k x ls i (b .at) inside indexed ∙ rw (← o))) (omega arith) (omega arith)
+          ∙ ap (leads (cursors k x 0 (take i ls)) (counts (m - m₀) (a .passed))) (first c e ∙ ap (onto (placed k i l (b .at)) (counts (b .moves - m) (b .at - getD x i 0 - (b .moves - m)))) (sym u))
+          ∙ round-same (sym (put-all k x ls i (b .at) inside indexed ∙ rw (← o))) (omega (arith, g .more, a .more)) (omega arith)
 
-      pub doing-stops : b .spent ≡ true → {r : Round} → r ≡ record { moves = moves + b .moves; passed = passed + b .passed; to = p; accepted = false; stop = true }
-          → Turns last root ls k end p n x₀ x′ r
+      pub doing-stops : b .spent ≡ true → {r : Round} → r ≡ record { moves = b .moves; to = p; accepted = false; stop = true }
+          → Turns last root ls k end p budget m₀ x₀ x′ r
       doing-stops e f = rw f (record {
         valid = moved;
-        few = omega (arith, g .few, a .few);
+        passed = passed;
+        more = omega (arith, g .more, a .more);
+        few = g .few;
         from = omega arith;
         bound = λ z. absurd (true≢false z);
         same = ends stops (rw (g .stops e, outcome)) refl;
@@ -232,11 +239,13 @@ module _ {last root : List ℕ} {ls : List (List ℕ)} {m k end p n : ℕ} {x₀
         resting = g .rests e
 
         pub doing-again : not (Bool·beq (b .carries) asked) ≡ true
-            → {r : Round} → r ≡ record { moves = moves + b .moves; passed = passed + b .passed; to = b .to; accepted = false; stop = false }
-            → Turns last root ls k end p n x₀ x′ r
+            → {r : Round} → r ≡ record { moves = b .moves; to = b .to; accepted = false; stop = false }
+            → Turns last root ls k end p budget m₀ x₀ x′ r
         doing-again z f = rw f (record {
           valid = moved;
-          few = omega (arith, g .few, a .few);
+          passed = passed;
+          more = omega (arith, g .more, a .more);
+          few = g .few;
           from = resting .from;
           bound = λ z. g .bound e;
           same = ends (again (b .to + 1)) (rests-outcome (side-of k i) (drop (b .at) l) p (b .carries) resting ∙ rw (asked-not (b .carries) (ltb i k) (rw q at z))) refl;
@@ -245,24 +254,25 @@ module _ {last root : List ℕ} {ls : List (List ℕ)} {m k end p n : ℕ} {x₀
         })
 
         pub doing-more : not (Bool·beq (b .carries) asked) ≡ false → {to′ : ℕ} → to′ ≡ min (b .to) to
-            → Doing last root ls m k end p n x₀ x′ (moves + b .moves) (passed + b .passed) to′ (i + 1)
+            → Doing last root ls n k end p budget m₀ x₀ x′ (b .moves) to′ (i + 1)
         doing-more z t =
             let so = asked-so (b .carries) (ltb i k) (rw q at z) in
-            let u : n - moves - b .moves ≡ n - (moves + b .moves) = omega arith in
+            let u : budget - m - (b .moves - m) ≡ budget - b .moves = omega (arith, g .more) in
             record {
               count = a .count;
+              passed = passed;
               valid = moved;
               within = let l = inside in omega arith;
-              few = omega (arith, g .few, a .few);
-              small = small-more;
+              more = omega (arith, g .more, a .more);
+              few = g .few;
               from = omega (arith, resting .from, a .from);
               inside = omega (arith, a .inside);
               bound = omega (arith, a .bound);
               same =
                   a .same
-                  ∙ ap (leads (cursors k x 0 (take i ls)) (counts moves passed)) (first accepts (rests-outcome (side-of k i) (drop (b .at) l) p (b .carries) resting ∙ rw so))
+                  ∙ ap (leads (cursors k x 0 (take i ls)) (counts (m - m₀) (a .passed))) (first accepts (rests-outcome (side-of k i) (drop (b .at) l) p (b .carries) resting ∙ rw so))
                   ∙ rw (u, put-upto k x ls i (b .at) inside indexed, ← o, ← kept-after k x ls i (b .at) inside indexed, append-assoc)
-                  (round-same refl (omega arith) (omega arith));
+                  (round-same refl (omega (arith, g .more, a .more)) (omega arith));
               steady = λ y v w. rw (put-upto k x ls i (b .at) inside indexed, ← o)
                   (accept-more last end y (cursors k x 0 (take i ls)) (placed k i l (b .at)) (a .steady y v (omega arith))
                   (rests-outcome (side-of k i) (drop (b .at) l) y (b .carries) (rests-on (b .carries) resting y v (omega arith)) ∙ rw so));

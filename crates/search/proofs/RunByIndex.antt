@@ -1,15 +1,15 @@
 -- What a round in code does to a run: the definition's run goes on from where the code's round leaves off.
-use Prim.Native.Nat.{ℕ, zero, suc, _+_, _-_, _*_, _≤_, _<_}
+use Prim.Native.Nat.{ℕ, zero, suc, _+_, _-_, _≤_, _<_}
 use native.Mathlib.Omega.{arith}
 use mathlib.Core.Bool.{Bool, true, false, cond}
 use mathlib.Core.List.{List, [], _∷_, _++_, map, append-assoc, append-nil}
-use lib.ListN.{length, getD, drop, replicate, length-append, length-drop}
+use lib.ListN.{length, getD, drop, replicate, length-append}
 use lib.Seq.{length-sets}
-use mathlib.Core.Path.{_≡_, refl, sym, ap, ap₂, subst, _∙_}
+use mathlib.Core.Path.{_≡_, refl, sym, ap, ap₂, _∙_}
 use borrow.Author.Tests.{lt-ltb, le-ltb}
 use Rattle.steps.specs.Matching.{matching}
-use Rattle.steps.specs.Steps.{required, forbidden, placed, End, ends, counted, listing, run, total}
-use Rattle.steps.proofs.Counts.{run-by, run-over, round-tallies}
+use Rattle.steps.specs.Steps.{required, forbidden, placed, End, ends, counted, listing, run}
+use Rattle.steps.proofs.Counts.{run-by, run-over}
 use Rattle.steps.proofs.Stretch.{led, listing-led, counted-none, run-still}
 use Rattle.search.specs.inner.Cursors.{Tables, Valid, Lists, cursors, begin, stretch, Turns, Writes, Ends}
 use Rattle.search.specs.declared.run.Round.{Round}
@@ -20,41 +20,44 @@ use Rattle.search.proofs.Written.{matching-few, sets-after}
 abbrev pub rounds : Bool → ℕ → ℕ → ℕ
 rounds accepted p to = cond accepted (to + 1 - p) 1
 
-module _ {last root : List ℕ} {ls : List (List ℕ)} {k end p n : ℕ} {at at′ : List ℕ} {r : Round} (ok : ℕ → Bool)
-    (t : Turns last root ls k end p n at at′ r) (h : p < end) where
-  pub turn-stops : r .stop ≡ true → (j : ℕ) → run last root end ok (suc j) n p (cursors k at 0 ls) ≡ counted (counts (r .moves) (r .passed)) (ends p true)
-  turn-stops e j = run-by last root end ok j n p (cursors k at 0 ls) _ h (t .same) ∙ rw e
+module _ {last root : List ℕ} {ls : List (List ℕ)} {k end p budget m : ℕ} {at at′ : List ℕ} {r : Round} (ok : ℕ → Bool)
+    (t : Turns last root ls k end p budget m at at′ r) (h : p < end) where
+  pub turn-stops : r .stop ≡ true → (j : ℕ) → run last root end ok (suc j) (budget - m) p (cursors k at 0 ls) ≡ counted (counts (r .moves - m) (t .passed)) (ends p true)
+  turn-stops e j = run-by last root end ok j (budget - m) p (cursors k at 0 ls) _ h (t .same) ∙ rw e
 
   module _ (e : r .stop ≡ false) where
-    again-goes : r .accepted ≡ false → (j : ℕ) → run last root end ok (suc j) n p (cursors k at 0 ls)
-        ≡ counted (counts (r .moves) (r .passed)) (run last root end ok j (n - r .moves) (r .to + 1) (cursors k at′ 0 ls))
-    again-goes f j = run-by last root end ok j n p (cursors k at 0 ls) _ h (t .same) ∙ rw (e, f)
+    left : budget - m - (r .moves - m) ≡ budget - r .moves
+    left = omega (arith, t .more)
 
-    accepted-goes : r .accepted ≡ true → (j : ℕ) → run last root end ok (suc j) n p (cursors k at 0 ls)
-        ≡ counted (counts (r .moves) (r .passed)) (listing (ok p) p (run last root end ok j (n - r .moves) (p + 1) (cursors k at′ 0 ls)))
-    accepted-goes f j = run-by last root end ok j n p (cursors k at 0 ls) _ h (t .same) ∙ rw (e, f)
+    again-goes : r .accepted ≡ false → (j : ℕ) → run last root end ok (suc j) (budget - m) p (cursors k at 0 ls)
+        ≡ counted (counts (r .moves - m) (t .passed)) (run last root end ok j (budget - r .moves) (r .to + 1) (cursors k at′ 0 ls))
+    again-goes f j = run-by last root end ok j (budget - m) p (cursors k at 0 ls) _ h (t .same) ∙ rw (e, f, left)
 
-    stretch-goes : r .accepted ≡ true → (j : ℕ) → run last root end ok (r .to + 1 - p + j) n p (cursors k at 0 ls)
-        ≡ counted (counts (r .moves) (r .passed)) (led (matching ok (r .to + 1 - p) p) (run last root end ok j (n - r .moves) (r .to + 1) (cursors k at′ 0 ls)))
+    accepted-goes : r .accepted ≡ true → (j : ℕ) → run last root end ok (suc j) (budget - m) p (cursors k at 0 ls)
+        ≡ counted (counts (r .moves - m) (t .passed)) (listing (ok p) p (run last root end ok j (budget - r .moves) (p + 1) (cursors k at′ 0 ls)))
+    accepted-goes f j = run-by last root end ok j (budget - m) p (cursors k at 0 ls) _ h (t .same) ∙ rw (e, f, left)
+
+    stretch-goes : r .accepted ≡ true → (j : ℕ) → run last root end ok (r .to + 1 - p + j) (budget - m) p (cursors k at 0 ls)
+        ≡ counted (counts (r .moves - m) (t .passed)) (led (matching ok (r .to + 1 - p) p) (run last root end ok j (budget - r .moves) (r .to + 1) (cursors k at′ 0 ls)))
     unfolding matching
     stretch-goes f j =
         let i = t .inside f in
         let u : r .to + 1 - p + j ≡ suc (r .to - p + j) = omega (arith, t .from) in
         let v : r .to + 1 - p ≡ suc (r .to - p) = omega (arith, t .from) in
         let w : p + 1 + (r .to - p) ≡ r .to + 1 = omega (arith, t .from) in
-        let S = run-still last root end ok (cursors k at′ 0 ls) (n - r .moves) (r .to - p) j (p + 1) (omega arith) (λ q x y. t .steady f q (omega arith) (omega arith)) in
+        let S = run-still last root end ok (cursors k at′ 0 ls) (budget - r .moves) (r .to - p) j (p + 1) (omega arith) (λ q x y. t .steady f q (omega arith) (omega arith)) in
         rw (u, v)
         (accepted-goes f (r .to - p + j)
-        ∙ ap (λ x. counted (counts (r .moves) (r .passed)) (listing (ok p) p x)) (rw w at S)
-        ∙ ap (counted (counts (r .moves) (r .passed))) (listing-led (ok p) p _ _))
+        ∙ ap (λ x. counted (counts (r .moves - m) (t .passed)) (listing (ok p) p x)) (rw w at S)
+        ∙ ap (counted (counts (r .moves - m) (t .passed))) (listing-led (ok p) p _ _))
 
     -- all positions of the stretch at once
-    pub turn-goes : (j : ℕ) → run last root end ok (rounds (r .accepted) p (r .to) + j) n p (cursors k at 0 ls)
-        ≡ counted (counts (r .moves) (r .passed)) (led (stretch (r .accepted) ok p (r .to)) (run last root end ok j (n - r .moves) (r .to + 1) (cursors k at′ 0 ls)))
+    pub turn-goes : (j : ℕ) → run last root end ok (rounds (r .accepted) p (r .to) + j) (budget - m) p (cursors k at 0 ls)
+        ≡ counted (counts (r .moves - m) (t .passed)) (led (stretch (r .accepted) ok p (r .to)) (run last root end ok j (budget - r .moves) (r .to + 1) (cursors k at′ 0 ls)))
     turn-goes j = by (r .accepted) refl
       where
-        by : (b : Bool) → r .accepted ≡ b → run last root end ok (rounds b p (r .to) + j) n p (cursors k at 0 ls)
-            ≡ counted (counts (r .moves) (r .passed)) (led (stretch b ok p (r .to)) (run last root end ok j (n - r .moves) (r .to + 1) (cursors k at′ 0 ls)))
+        by : (b : Bool) → r .accepted ≡ b → run last root end ok (rounds b p (r .to) + j) (budget - m) p (cursors k at 0 ls)
+            ≡ counted (counts (r .moves - m) (t .passed)) (led (stretch b ok p (r .to)) (run last root end ok j (budget - r .moves) (r .to + 1) (cursors k at′ 0 ls)))
         by false f = let u : 1 + j ≡ suc j = omega arith in rw u (again-goes f j)
         by true f = stretch-goes f j
 
@@ -91,14 +94,8 @@ valid-first v = record {
   each = λ k h. rw (first-of 16 k) (record { sound = v .each k h; within = omega arith });
 }
 
--- the postings of all cursors are few
-total-few : (k : ℕ) (x : List ℕ) (i : ℕ) (ls : List (List ℕ)) → ((j : ℕ) → j < length ls → length (getD ls j []) ≤ 1048576) → total (cursors k x i ls) ≤ length ls * 1048576
-unfolding cursors
-total-few k x i [] h = omega arith
-total-few k x i (l ∷ ls) h = omega (arith, h 0 (omega arith), length-drop (getD x i 0) l, total-few k x (suc i) ls (λ j b. h (suc j) (omega arith)))
-
 -- what is listed and counted so far; the rounds left are enough, and give what is left of the whole run
-pub record Listed (last root : List ℕ) (ok : ℕ → Bool) (ls : List (List ℕ)) (k end budget start : ℕ) (out₀ at out : List ℕ) (position moves passed count : ℕ) : Type 0 where
+pub record Listed (last root : List ℕ) (ok : ℕ → Bool) (ls : List (List ℕ)) (k end budget start : ℕ) (out₀ at out : List ℕ) (position moves count : ℕ) : Type 0 where
   pub tables : Tables last root
   pub in-plant : end ≤ length last + 1
   pub roomy : length last ≤ length out₀
@@ -113,13 +110,13 @@ pub record Listed (last root : List ℕ) (ok : ℕ → Bool) (ls : List (List �
   pub room : count < position
   pub fits : position < 4294967296
   pub few : moves ≤ budget
-  pub small : moves + passed + total (cursors k at 0 ls) ≤ 16777216
+  pub passed : ℕ
   pub same : run last root end ok end budget start (begin k ls)
       ≡ counted (counts moves passed) (led listed (run last root end ok more (budget - moves) position (cursors k at 0 ls)))
 
 pub listed-start : {last root : List ℕ} {ok : ℕ → Bool} {ls : List (List ℕ)} {k end budget start : ℕ} {out : List ℕ} → Tables last root → length last ≤ length out
     → Lists last ls → 1 ≤ start → 1 ≤ end → end ≤ length last + 1 → start < 4294967296
-    → Listed last root ok ls k end budget start out (replicate 16 0) out start 0 0 0
+    → Listed last root ok ls k end budget start out (replicate 16 0) out start 0 0
 listed-start {ls} {k} {end} {budget} t o v h i w f =
     let u : budget - 0 ≡ budget = omega arith in
     record {
@@ -137,41 +134,35 @@ listed-start {ls} {k} {end} {budget} t o v h i w f =
       room = omega arith;
       fits = f;
       few = omega arith;
-      small = omega (arith, v .few, total-few k (replicate 16 0) 0 ls (λ j b. v .each j b .short));
+      passed = 0;
       same = rw u (sym (counted-none _));
     }
 
-module _ {last root : List ℕ} {ok : ℕ → Bool} {ls : List (List ℕ)} {k end budget start : ℕ} {out₀ at out : List ℕ} {position moves passed count : ℕ}
-    (a : Listed last root ok ls k end budget start out₀ at out position moves passed count) where
+module _ {last root : List ℕ} {ok : ℕ → Bool} {ls : List (List ℕ)} {k end budget start : ℕ} {out₀ at out : List ℕ} {position moves count : ℕ}
+    (a : Listed last root ok ls k end budget start out₀ at out position moves count) where
   abbrev whole : End
   whole = run last root end ok end budget start (begin k ls)
 
-  listed-ends : (p m s : ℕ) (short : Bool) → counted (counts moves passed) (led (a .listed) (run last root end ok (a .more) (budget - moves) position (cursors k at 0 ls)))
+  listed-ends : (p m s : ℕ) (short : Bool) → counted (counts moves (a .passed)) (led (a .listed) (run last root end ok (a .more) (budget - moves) position (cursors k at 0 ls)))
       ≡ record { listed = a .listed; position = p; counts = counts m s; short = short }
-      → Ends whole out₀ out (record { count = count; position = p; moves = m; passed = s })
+      → Ends whole out₀ out (record { count = count; position = p; moves = m })
   listed-ends p m s short e =
-      rw (a .same ∙ e) (record { written = rw (a .long) (a .written); count = sym (a .long); position = refl; moves = refl; passed = refl })
+      rw (a .same ∙ e) (record { written = rw (a .long) (a .written); count = sym (a .long); position = refl; moves = refl })
 
-  pub listed-over : end ≤ position → Ends whole out₀ out (record { count = count; position = end; moves = moves; passed = passed })
+  pub listed-over : end ≤ position → Ends whole out₀ out (record { count = count; position = end; moves = moves })
   listed-over h =
-      listed-ends end moves passed false
-      (ap (λ x. counted (counts moves passed) (led (a .listed) x)) (run-over last root end ok (a .more) (budget - moves) position (cursors k at 0 ls) (a .some) h)
+      listed-ends end moves (a .passed) false
+      (ap (λ x. counted (counts moves (a .passed)) (led (a .listed) x)) (run-over last root end ok (a .more) (budget - moves) position (cursors k at 0 ls) (a .some) h)
       ∙ end-same (append-nil (a .listed)) (omega arith) (omega arith))
 
-  module _ (h : position < end) {at′ : List ℕ} {t : Round} (v : Turns last root ls k end position (budget - moves) at at′ t) where
-    pub listed-stops : t .stop ≡ true → Ends whole out₀ out (record { count = count; position = position; moves = moves + t .moves; passed = passed + t .passed })
+  module _ (h : position < end) {at′ : List ℕ} {t : Round} (v : Turns last root ls k end position budget moves at at′ t) where
+    pub listed-stops : t .stop ≡ true → Ends whole out₀ out (record { count = count; position = position; moves = t .moves })
     listed-stops e =
         let q : a .more ≡ suc (a .more - 1) = omega (arith, a .some) in
-        listed-ends position (moves + t .moves) (passed + t .passed) true
-        (ap (λ x. counted (counts moves passed) (led (a .listed) x))
+        listed-ends position (t .moves) (a .passed + v .passed) true
+        (ap (λ x. counted (counts moves (a .passed)) (led (a .listed) x))
         (ap (λ (j : ℕ). run last root end ok j (budget - moves) position (cursors k at 0 ls)) q ∙ turn-stops ok v h e (a .more - 1))
-        ∙ end-same (append-nil (a .listed)) (omega (arith, a .few, v .few)) (omega arith))
-
-    -- the counts are small
-    pub small-more : moves + t .moves + (passed + t .passed) + total (cursors k at′ 0 ls) ≤ 16777216
-    small-more =
-        let T = subst (λ r. r .counts .moves + r .counts .passed + total (r .cursors) ≡ total (cursors k at 0 ls)) (v .same) (round-tallies last root end position (budget - moves) (cursors k at 0 ls) .count) in
-        omega (arith, a .small, a .few, v .few)
+        ∙ end-same (append-nil (a .listed)) (omega (arith, v .more)) (omega arith))
 
     pub next-fits : t .stop ≡ false → t .to + 1 < 4294967296
     next-fits e = let f = a .tables .few in omega (arith, v .bound e)
@@ -186,7 +177,7 @@ module _ {last root : List ℕ} {ok : ℕ → Bool} {ls : List (List ℕ)} {k en
       spans false f = let r = v .from in (omega arith, omega arith, omega arith)
 
       pub listed-more : {count′ next : ℕ} {out′ : List ℕ} → Writes (t .accepted) ok position (t .to) out out′ count count′ → next ≡ t .to + 1
-          → Listed last root ok ls k end budget start out₀ at′ out′ next (moves + t .moves) (passed + t .passed) count′
+          → Listed last root ok ls k end budget start out₀ at′ out′ next (t .moves) count′
       listed-more {count′} {next} {out′} w n =
           let ds = stretch (t .accepted) ok position (t .to) in
           let used = rounds (t .accepted) position (t .to) in
@@ -196,7 +187,6 @@ module _ {last root : List ℕ} {ok : ℕ → Bool} {ls : List (List ℕ)} {k en
           let i = v .bound e in
           let q : a .more ≡ used + (a .more - used) = omega (arith, a .enough) in
           let fits : count + length ds ≤ length out₀ = omega arith in
-          let z : budget - moves - t .moves ≡ budget - (moves + t .moves) = omega arith in
           rw (n, w .long, w .written) (record {
             tables = a .tables;
             in-plant = a .in-plant;
@@ -211,12 +201,12 @@ module _ {last root : List ℕ} {ok : ℕ → Bool} {ls : List (List ℕ)} {k en
             kept = length-sets out count ds ∙ a .kept;
             room = omega arith;
             fits = next-fits e;
-            few = omega (arith, a .few, v .few);
-            small = small-more;
+            few = v .few;
+            passed = a .passed + v .passed;
             same = a .same
-                ∙ ap (λ x. counted (counts moves passed) (led (a .listed) x))
+                ∙ ap (λ x. counted (counts moves (a .passed)) (led (a .listed) x))
                 (ap (λ (j : ℕ). run last root end ok j (budget - moves) position (cursors k at 0 ls)) q ∙ turn-goes ok v h e (a .more - used))
-                ∙ rw z (end-same (sym (append-assoc (a .listed) ds _)) (omega arith) (omega arith));
+                ∙ end-same (sym (append-assoc (a .listed) ds _)) (omega (arith, v .more)) (omega arith);
           })
 
     -- so fewer positions are left

@@ -42,31 +42,29 @@ fn target(last: &[u16], root: &[u16], p: u32, q: u32) -> u32
     if end < p { end + 1 } else { 0 }
 }
 
-// A cursor brought to a position: its index, the moves made and the postings that they passed over, whether its posting carries to the
-// position, and the last position up to which that stays so without a move; or that it needs one move more than are left.
+// A cursor brought to a position: its index, the moves made so far, whether its posting carries to the position, and the last position up to
+// which that stays so without a move; or that the next move would exceed the budget.
 pub struct Brought {
     pub at: usize,
-    pub moves: u32,
-    pub passed: u32,
+    pub moves: usize,
     pub carries: bool,
     pub to: u32,
     pub spent: bool,
 }
 
-fn stays(at: usize, moves: u32, passed: u32, carries: bool, to: u32) -> Brought
-    ensures { λ r. ⌜ r ≡ record { at = at; moves = moves; passed = passed; carries = carries; to = to; spent = false } ⌝ }
+fn stays(at: usize, moves: usize, carries: bool, to: u32) -> Brought
+    ensures { λ r. ⌜ r ≡ record { at = at; moves = moves; carries = carries; to = to; spent = false } ⌝ }
 {
     Brought {
         at,
         moves,
-        passed,
         carries,
         to,
         spent: false,
     }
 }
 
-// Brings the cursor at index `from` of a list to position p, with `left` moves left.
+// Brings the cursor at index `from` of a list to position p, where `made` moves have been made of a budget.
 pub fn bring(
     last: &[u16],
     root: &[u16],
@@ -74,39 +72,37 @@ pub fn bring(
     from: usize,
     p: u32,
     end: u32,
-    left: u32,
+    budget: u32,
+    made: usize,
 ) -> Brought
-    requires { ⌜ Tables (now last) (now root) × Cursor (now last) (now list) from × IsEntry (now last) p × (p < end) × (end ≤ length (now last) + 1) ⌝ }
-    ensures { λ r. ⌜ Brings (now (last .entry)) (now (root .entry)) (now (list .entry)) end p left from r ⌝ }
+    requires { ⌜ Tables (now last) (now root) × Cursor (now last) (now list) from × IsEntry (now last) p × (p < end) × (end ≤ length (now last) + 1) × (made ≤ budget) ⌝ }
+    ensures { λ r. ⌜ Brings (now (last .entry)) (now (root .entry)) (now (list .entry)) end p budget made from r ⌝ }
 {
+    let most = budget as usize;
     let mut at = from;
-    let mut moves: u32 = 0;
-    let mut passed: u32 = 0;
+    let mut moves = made;
     while at < list.len() {
         let q = list[at];
         if p < q / 2 {
-            return stays(at, moves, passed, false, q / 2 - 1);
+            return stays(at, moves, false, q / 2 - 1);
         }
         let next = at + 1;
         let reached = reach(last, q);
         if p <= reached {
-            return stays(at, moves, passed, true, reached);
+            return stays(at, moves, true, reached);
         }
-        if left <= moves {
+        if most <= moves {
             return Brought {
                 at,
                 moves,
-                passed,
                 carries: false,
                 to: p,
                 spent: true,
             };
         }
         let device = target(last, root, p, q);
-        let found = seek(list, next, device);
-        passed += (found - next) as u32;
         moves += 1;
-        at = found;
+        at = seek(list, next, device);
     }
-    stays(at, moves, passed, false, end - 1)
+    stays(at, moves, false, end - 1)
 }

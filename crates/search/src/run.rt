@@ -12,22 +12,20 @@ use crate::cursor::bring;
 use query::Levels;
 use query::in_range;
 
-// How a round at a position p ends: every cursor accepts each position from p to `to`; or the position is set to the one after `to`; or one
-// move more is needed than are left. The moves made, and the postings that they passed over.
+// How a round at a position p ends: every cursor accepts each position from p to `to`; or the position is set to the one after `to`; or the
+// next move would exceed the budget. The moves made so far.
 pub struct Round {
-    pub moves: u32,
-    pub passed: u32,
+    pub moves: usize,
     pub to: u32,
     pub accepted: bool,
     pub stop: bool,
 }
 
-fn round_of(moves: u32, passed: u32, to: u32, accepted: bool, stop: bool) -> Round
-    ensures { λ r. ⌜ r ≡ record { moves = moves; passed = passed; to = to; accepted = accepted; stop = stop } ⌝ }
+fn round_of(moves: usize, to: u32, accepted: bool, stop: bool) -> Round
+    ensures { λ r. ⌜ r ≡ record { moves = moves; to = to; accepted = accepted; stop = stop } ⌝ }
 {
     Round {
         moves,
-        passed,
         to,
         accepted,
         stop,
@@ -40,7 +38,7 @@ fn least(a: u32, b: u32) -> u32
     if a < b { a } else { b }
 }
 
-// One round at position p, with `left` moves left. Cursor k is at index positions[k] of lists[k]; the first `required` of them are of required
+// One round at position p, where `made` moves have been made of a budget. Cursor k is at index positions[k] of lists[k]; the first `required` of them are of required
 // terms, the others of forbidden ones.
 fn pass(
     last: &[u16],
@@ -50,34 +48,33 @@ fn pass(
     positions: &mut [usize; 16],
     p: u32,
     end: u32,
-    left: u32,
+    budget: u32,
+    made: usize,
 ) -> Round
-    requires { ⌜ Tables (now last) (now root) × IsEntry (now last) p × (p < end) × (end ≤ length (now last) + 1) × Valid (now last) (map now (now lists)) (now positions) ⌝ }
-    ensures { λ r. ⌜ Turns (now (last .entry)) (now (root .entry)) (map now (now (lists .entry))) required end p left (now (positions .entry)) (now (positions .exit)) r ⌝ }
+    requires { ⌜ Tables (now last) (now root) × IsEntry (now last) p × (p < end) × (end ≤ length (now last) + 1) × Valid (now last) (map now (now lists)) (now positions) × (made ≤ budget) ⌝ }
+    ensures { λ r. ⌜ Turns (now (last .entry)) (now (root .entry)) (map now (now (lists .entry))) required end p budget made (now (positions .entry)) (now (positions .exit)) r ⌝ }
 {
-    let mut moves: u32 = 0;
-    let mut passed: u32 = 0;
+    let mut moves = made;
     let mut to = end - 1;
     let mut i = 0;
     while i < lists.len() {
         let list = lists[i];
         let from = positions[i];
-        let brought = bring(last, root, list, from, p, end, left - moves);
+        let brought = bring(last, root, list, from, p, end, budget, moves);
         let at = brought.at;
         positions[i] = at;
-        moves += brought.moves;
-        passed += brought.passed;
+        moves = brought.moves;
         if brought.spent {
-            return round_of(moves, passed, p, false, true);
+            return round_of(moves, p, false, true);
         }
         let asked = i < required;
         if brought.carries != asked {
-            return round_of(moves, passed, brought.to, false, false);
+            return round_of(moves, brought.to, false, false);
         }
         to = least(brought.to, to);
         i += 1;
     }
-    round_of(moves, passed, to, true, false)
+    round_of(moves, to, true, false)
 }
 
 // Whether the level code of device d is one that a query wants.
@@ -135,12 +132,11 @@ fn list(
     count
 }
 
-// What a run listed, how far it came, the moves made and the postings that they passed over.
+// How many devices a run listed, how far it came, and the moves made.
 pub struct Listing {
     pub count: u32,
     pub position: u32,
     pub moves: u32,
-    pub passed: u32,
 }
 
 // The run from position `start` up to `end`, each cursor on the first posting of its list. The first `required` lists are those of required
@@ -163,8 +159,7 @@ pub fn run(
 {
     let mut positions = [0; 16];
     let mut position = start;
-    let mut moves: u32 = 0;
-    let mut passed: u32 = 0;
+    let mut moves = 0;
     let mut count = 0;
     while position < end {
         let round = pass(
@@ -175,16 +170,15 @@ pub fn run(
             &mut positions,
             position,
             end,
-            budget - moves,
+            budget,
+            moves,
         );
-        moves += round.moves;
-        passed += round.passed;
+        moves = round.moves;
         if round.stop {
             return Listing {
                 count,
                 position,
-                moves,
-                passed,
+                moves: moves as u32,
             };
         }
         count = list(
@@ -201,7 +195,6 @@ pub fn run(
     Listing {
         count,
         position: end,
-        moves,
-        passed,
+        moves: moves as u32,
     }
 }

@@ -58,41 +58,48 @@ module _ (last root : List ℕ) (p : ℕ) where
 moved-same : (a b : Moved) → a .cursor ≡ b .cursor → a .counts .moves ≡ b .counts .moves → a .counts .passed ≡ b .counts .passed → a ≡ b
 moved-same a b c m p = ap₂ (λ x y. record { cursor = x; counts = y }) c (ap₂ (λ x y. record { moves = x; passed = y }) m p)
 
--- the cursor at index f of a list, brought to p with n moves left, is at index i after so many moves, and goes on from there
-pub record Ahead (last root l : List ℕ) (p n f i moves passed : ℕ) : Type 0 where
+-- what moves from f to i passed over, and one from i to j, and x more
+passed-more : (f i j moves x : ℕ) → f + moves ≤ i → i < j → i - f - moves + (j - i - 1 + x) ≡ j - f - (moves + 1) + x
+passed-more f i j moves x h k = omega flags
+
+-- the cursor at index f of a list, brought to p with n moves left, is at index i after so many moves, and goes on from there. Of what lies
+-- between f and i, the moves landed on as many postings as they are, and passed over the rest.
+pub record Ahead (last root l : List ℕ) (p n f i moves : ℕ) : Type 0 where
   pub within : i ≤ length l
   pub few : moves ≤ n
-  pub small : moves + passed ≤ i
+  pub onward : f + moves ≤ i
   pub same : bring last root p n (drop f l)
-      ≡ then (record { cursor = drop i l; counts = record { moves = moves; passed = passed } }) (bring last root p (n - moves) (drop i l))
+      ≡ then (record { cursor = drop i l; counts = record { moves = moves; passed = i - f - moves } }) (bring last root p (n - moves) (drop i l))
 
 module _ {last root l : List ℕ} {p n f : ℕ} where
-  pub ahead-start : f ≤ length l → Ahead last root l p n f f 0 0
+  pub ahead-start : f ≤ length l → Ahead last root l p n f f 0
   ahead-start h = record {
     within = h;
     few = omega flags;
-    small = omega flags;
+    onward = omega flags;
     same = let u : n - 0 ≡ n = omega flags in rw u (moved-same _ _ refl (omega flags) (omega flags));
   }
 
-  module _ {i moves passed : ℕ} (a : Ahead last root l p n f i moves passed) where
+  module _ {i moves : ℕ} (a : Ahead last root l p n f i moves) where
     -- it makes a move
     pub ahead-moves : {j : ℕ} → i < length l → behind last p (drop i l) ≡ true → moves < n → j ≡ forward l (i + 1) (target last root p (getD l i 0)) →
-        Ahead last root l p n f j (moves + 1) (passed + (j - i - 1))
+        Ahead last root l p n f j (moves + 1)
     ahead-moves {j} h b w e =
         let m = move-at last root p l i j h e in
         let u : n - moves ≡ suc (n - (moves + 1)) = omega flags in
         record {
           within = m .1;
           few = omega flags;
-          small = omega flags;
-          same = a .same ∙ rw (u, bring-moves last root p (n - (moves + 1)) (drop i l) _ b (m .2)) (moved-same _ _ refl (omega flags) (omega flags));
+          onward = omega flags;
+          same = a .same ∙ rw (u, bring-moves last root p (n - (moves + 1)) (drop i l) _ b (m .2))
+              (moved-same _ _ refl (omega flags) (passed-more f i j moves _ (a .onward) (m .0)));
         }
 
     -- it is no more behind, or no move is left
-    pub ahead-ends : behind last p (drop i l) ≡ false → bring last root p n (drop f l) ≡ record { cursor = drop i l; counts = record { moves = moves; passed = passed } }
+    pub ahead-ends : behind last p (drop i l) ≡ false →
+        bring last root p n (drop f l) ≡ record { cursor = drop i l; counts = record { moves = moves; passed = i - f - moves } }
     ahead-ends b = a .same ∙ rw (bring-still last root p (n - moves) (drop i l) b) (moved-same _ _ refl (omega flags) (omega flags))
 
-    pub ahead-spent : n ≤ moves → bring last root p n (drop f l) ≡ record { cursor = drop i l; counts = record { moves = moves; passed = passed } }
+    pub ahead-spent : n ≤ moves → bring last root p n (drop f l) ≡ record { cursor = drop i l; counts = record { moves = moves; passed = i - f - moves } }
     unfolding bring
     ahead-spent w = let u : n - moves ≡ 0 = omega flags in a .same ∙ rw u (moved-same _ _ refl (omega flags) (omega flags))

@@ -18,11 +18,10 @@ use Rattle.search.specs.declared.cursor.Brought.{Brought}
 use Rattle.search.specs.declared.run.Round.{Round}
 use Rattle.search.specs.declared.run.Listing.{Listing}
 
--- each posting of a list is of a device, devices do not fall, and the postings are no more than an index holds
+-- each posting of a list is of a device, and devices do not fall
 pub record Sound (last l : List ℕ) : Type 0 where
   pub devices : (k : ℕ) → k < length l → IsEntry last (device (getD l k 0))
   pub sorted : (j k : ℕ) → j ≤ k → k < length l → device (getD l j 0) ≤ device (getD l k 0)
-  pub short : length l ≤ 1048576
 
 -- a cursor at an index of a sound list: it stands for what is left of the list
 pub record Cursor (last l : List ℕ) (i : ℕ) : Type 0 where
@@ -35,13 +34,13 @@ pub record Tables (last root : List ℕ) : Type 0 where
   pub few : length last ≤ 65535
   pub inside : (d : ℕ) → IsEntry last d → entry last d ≤ length last
 
--- the cursor at index f has been brought to position p, with n moves left
-pub record Brings (last root l : List ℕ) (end p n f : ℕ) (r : Brought) : Type 0 where
+-- the cursor at index f has been brought to position p, after m moves of a budget
+pub record Brings (last root l : List ℕ) (end p budget m f : ℕ) (r : Brought) : Type 0 where
   pub within : r .at ≤ length l
-  pub few : r .moves ≤ n
-  pub small : r .moves + r .passed ≤ r .at
-  pub same : steps.bring last root p n (drop f l)
-      ≡ record { cursor = drop (r .at) l; counts = record { moves = r .moves; passed = r .passed } }
+  pub more : m ≤ r .moves
+  pub few : r .moves ≤ budget
+  pub same : steps.bring last root p (budget - m) (drop f l)
+      ≡ record { cursor = drop (r .at) l; counts = record { moves = r .moves - m; passed = r .at - f - (r .moves - m) } }
   pub stops : r .spent ≡ true → behind last p (drop (r .at) l) ≡ true
   pub bound : r .spent ≡ false → r .to ≤ length last
   pub rests : r .spent ≡ false → Rests last end (drop (r .at) l) p (r .carries) (r .to)
@@ -63,14 +62,16 @@ pub record Valid (last : List ℕ) (ls : List (List ℕ)) (at : List ℕ) : Type
 abbrev pub said : Round → Outcome
 said r = cond (r .stop) stops (cond (r .accepted) accepts (again (r .to + 1)))
 
--- a round has been made at position p, with n moves left: the cursors go from `at` to `at′`. Where all accept p, they do at each position up to
--- the round's last.
-pub record Turns (last root : List ℕ) (ls : List (List ℕ)) (k end p n : ℕ) (at at′ : List ℕ) (r : Round) : Type 0 where
+-- a round has been made at position p, after m moves of a budget: the cursors go from `at` to `at′`. The code does not count what its moves passed
+-- over. Where all accept p, they do at each position up to the round's last.
+pub record Turns (last root : List ℕ) (ls : List (List ℕ)) (k end p budget m : ℕ) (at at′ : List ℕ) (r : Round) : Type 0 where
   pub valid : Valid last ls at′
-  pub few : r .moves ≤ n
+  pub passed : ℕ
+  pub more : m ≤ r .moves
+  pub few : r .moves ≤ budget
   pub from : p ≤ r .to
-  pub same : runs.round last root end p n (cursors k at 0 ls)
-      ≡ record { cursors = cursors k at′ 0 ls; counts = record { moves = r .moves; passed = r .passed }; outcome = said r }
+  pub same : runs.round last root end p (budget - m) (cursors k at 0 ls)
+      ≡ record { cursors = cursors k at′ 0 ls; counts = record { moves = r .moves - m; passed = passed }; outcome = said r }
   pub bound : r .stop ≡ false → r .to ≤ length last
   pub inside : r .accepted ≡ true → r .to < end
   pub steady : r .accepted ≡ true → (q : ℕ) → p ≤ q → q ≤ r .to → Accept last end q (cursors k at′ 0 ls)
@@ -99,4 +100,3 @@ pub record Ends (e : runs.End) (out out′ : List ℕ) (r : Listing) : Type 0 wh
   pub count : r .count ≡ length (e .listed)
   pub position : r .position ≡ e .position
   pub moves : r .moves ≡ e .counts .moves
-  pub passed : r .passed ≡ e .counts .passed

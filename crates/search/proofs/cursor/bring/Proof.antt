@@ -2,16 +2,15 @@
 use Prim.Native.Nat.{_-_}
 use lib.ListN.{length}
 use borrow.Author.Needs.{needs}
-use Rattle.steps.proofs.ByIndex.{Ahead}
-use Rattle.search.proofs.BringByIndex.{going-start, going-ends, going-device, going-past, going-carries, going-spent, going-moves}
+use Rattle.search.proofs.BringByIndex.{Going, going-start, going-ends, going-device, going-past, going-carries, going-spent, going-moves}
 use Rattle.search.proofs.cursor.bring.Statement.{statement}
 use Rattle.search.proofs.cursor.bring.Tie as tie
 
 abbrev Inv-loop : tie.InvT-loop
-Inv-loop last root list from p end left at₀ moves₀ passed₀ at moves passed = Ahead last root list p left from at moves passed
+Inv-loop last root list from p end budget made most at₀ moves₀ at moves = Going last root list p budget made from at moves
 
 abbrev μ-loop : tie.MeasureT-loop
-μ-loop last root list from p end left at₀ moves₀ passed₀ at moves passed = length list - at
+μ-loop last root list from p end budget made most at₀ moves₀ at moves = length list - at
 
 -- the start, seen inside the loop
 abbrev start : tie.In-loop Inv-loop μ-loop → tie.Start Inv-loop μ-loop
@@ -48,11 +47,8 @@ bring-spec =
     (λ c. search (needs, going-carries))
     returns-3
     (λ c κs. search (needs, going-device))
+    (λ c. search needs)
     (λ c κs. search needs)
-    (λ c. search needs)
-    (λ c. search needs)
-    (λ c. search needs)
-    (λ c. search needs)
     (λ c. search needs)
     loop-again
     (λ c. search needs)

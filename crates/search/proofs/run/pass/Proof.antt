@@ -1,21 +1,20 @@
 -- `search::run::pass` meets its contract: the cursors from i on give what the whole round gives.
-use Prim.Native.Nat.{_+_, _-_, _≤_}
+use Prim.Native.Nat.{_-_}
 use mathlib.Core.List.{map, []}
 use mathlib.Core.Path.{_≡_, refl}
 use denote.Ref.{now}
-use native.Mathlib.Omega.{arith}
 use lib.ListN.{length, getD, length-map}
 use borrow.Author.Needs.{needs}
-use Rattle.search.proofs.RoundByIndex.{Doing, element, doing-start, in-sixteen, here, small-more, doing-stops, doing-again, doing-more, doing-ends}
+use Rattle.search.proofs.RoundByIndex.{Doing, element, doing-start, in-sixteen, here, doing-stops, doing-again, doing-more, doing-ends}
 use Rattle.search.proofs.run.pass.Statement.{statement}
 use Rattle.search.proofs.run.pass.Tie as tie
 
 abbrev Inv-loop : tie.InvT-loop
-Inv-loop last root lists required positions₀ p end left moves₀ passed₀ to₀ i₀ positions moves passed to i =
-    Doing last root (map now lists) (length lists) required end p left positions₀ positions moves passed to i
+Inv-loop last root lists required positions₀ p end budget made moves₀ to₀ i₀ positions moves to i =
+    Doing last root (map now lists) (length lists) required end p budget made positions₀ positions moves to i
 
 abbrev μ-loop : tie.MeasureT-loop
-μ-loop last root lists required positions₀ p end left moves₀ passed₀ to₀ i₀ positions moves passed to i = length lists - i
+μ-loop last root lists required positions₀ p end budget made moves₀ to₀ i₀ positions moves to i = length lists - i
 
 -- the places: a turn's start, seen where its cursor has been brought, and the start of all
 abbrev turn : tie.After-bring Inv-loop μ-loop → tie.In-loop Inv-loop μ-loop
@@ -36,32 +35,23 @@ bring-requires : tie.Need-bring-requires Inv-loop μ-loop
 bring-requires c κs =
     let t = c .before .before in
     let s = start t in
-    (s .pre .0, here (t .before .loop .inv) (t .loop-test .taken) (listed t), s .pre .1, s .pre .2, s .pre .3)
-
--- all moves and passed postings are no more than the postings of 16 lists
-sums : (b : tie.After-bring Inv-loop μ-loop)
-    → turn b .before .loop .moves + b .bring .result .moves + (turn b .before .loop .passed + b .bring .result .passed) ≤ 16777216
-sums b =
-    let t = turn b in
-    let m = small-more (t .before .loop .inv) (t .loop-test .taken) (b .bring .ensures) (listed t) in
-    let l = in-sixteen (t .before .loop .inv) (t .loop-test .taken) in
-    omega arith
+    (s .pre .0, here (t .before .loop .inv) (t .loop-test .taken) (listed t), s .pre .1, s .pre .2, s .pre .3, t .before .loop .inv .few)
 
 returns : tie.Need-returns Inv-loop μ-loop
 returns c =
-    let b = c .before .before .before .before in
+    let b = c .before .before in
     let t = turn b in
     doing-stops (t .before .loop .inv) (t .loop-test .taken) (b .bring .ensures) (listed t) (c .before .if1 .taken) (c .round-of .ensures)
 
 returns-2 : tie.Need-returns-2 Inv-loop μ-loop
 returns-2 c =
-    let b = c .before .before .before .before .before .before in
+    let b = c .before .before .before .before in
     let t = turn b in
     doing-again (t .before .loop .inv) (t .loop-test .taken) (b .bring .ensures) (listed t) (c .before .before .before .if1 .left) refl (c .before .if2 .taken) (c .round-of2 .ensures)
 
 loop-again : tie.Need-loop-again Inv-loop μ-loop
 loop-again c =
-    let b = c .before .before .before .before .before .before in
+    let b = c .before .before .before .before in
     let t = turn b in
     doing-more (t .before .loop .inv) (t .loop-test .taken) (b .bring .ensures) (listed t) (c .before .before .before .if1 .left) refl (c .before .if2 .left) (c .least .ensures)
 
@@ -72,17 +62,14 @@ pass-spec =
     Inv-loop
     μ-loop
     (λ c. search needs)
-    (λ c. let s = c .before .before in doing-start (s .pre .4) (s .pre .2) (s .pre .3) (length-map (s .args .lists .now) now))
+    (λ c. let s = c .before .before in doing-start (s .pre .4) (s .pre .2) (s .pre .3) (s .pre .5) (length-map (s .args .lists .now) now))
     (λ c. search needs)
     (λ c. search needs)
     (λ c. search needs)
     (λ c. search (needs, in-sixteen))
-    (λ c. search needs)
     bring-requires
     (λ c. search needs)
     (λ c. search (needs, in-sixteen))
-    (λ c. let s = sums (c .before) in omega arith)
-    (λ c. let s = sums (c .before .before) in omega arith)
     (λ c κs. search needs)
     returns
     (λ c κs. search needs)
