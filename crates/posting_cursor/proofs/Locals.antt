@@ -1,7 +1,6 @@
--- Locals are read by the numbers that the code has for them. In a walk's context the cells stand two entries apart, the highest local's first: where local 0's is entry z, local i's is entry z - 2 · i. So a walk does not say which local is read, and goes on with what lies there.
---     local     `copy` of local i
---     inside    `copy` of a part of local i
--- It says nothing of the crate, and can be copied as it stands. Assumes `Given`.
+-- Locals are read by the numbers that the code has for them. In a walk's context the cells stand two entries apart, the highest local's first:
+-- where local 0's is entry z, local i's is entry z - 2 · i. So a walk does not say which local is read, and goes on with what lies there.
+-- `local` is a copy of local i, `inside` a copy of a part of it. It says nothing of the crate, and can be copied as it stands.
 use mathlib.Core.Path.{_≡_}
 use Prim.Native.Nat.{ℕ, _*_, _-_}
 use mathlib.Core.List.{List, []}
