@@ -37,8 +37,9 @@ uint32_t plant_search_check(
  * start: the device to begin at. budget: the most moves that the cursors may make.
  * answer: room for N devices or more. The matching devices are written to its front; other entries keep what they hold, and
  * after a refusal all do.
- * numbers: the number of devices listed, the position, the moves made. The listing is complete where the position is N + 1;
- * else going on from it as the start lists the rest. After a refusal all three are 0. */
+ * numbers: the number of devices listed, the position, the moves made. The listing holds every match from the start up to the
+ * position, and is complete where that is N + 1. Else the budget was spent there: going on from it as the start lists the rest,
+ * with a larger budget, since the cursors begin anew. After a refusal all three are 0. */
 uint32_t plant_search_search(
     const uint16_t *last, size_t last_length,
     const uint16_t *root, size_t root_length,
@@ -80,7 +81,7 @@ uint32_t plant_search_read_query(
     size_t numbers[8]);
 
 /* Answers ask text over plant text, as the program prints it, with room for 1,024 devices, 256 terms and 4,096 postings.
- * The number of bytes written to the front of out. */
+ * The number of bytes written to the front of out. Bytes past that number keep what they hold. */
 size_t plant_search_respond(
     const uint8_t *plant, size_t plant_length,
     const uint8_t *query, size_t query_length,

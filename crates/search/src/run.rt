@@ -38,8 +38,8 @@ fn least(a: u32, b: u32) -> u32
     if a < b { a } else { b }
 }
 
-// One round at position p, where `made` moves have been made of a budget. Cursor k is at index positions[k] of lists[k]; the first `required` of them are of required
-// terms, the others of forbidden ones.
+// One round at position p, where `made` moves have been made of a budget. Cursor k is at index positions[k] of lists[k]; the first `required`
+// of them are of required terms, the others of forbidden ones.
 fn pass(
     last: &[u16],
     root: &[u16],
