@@ -1,7 +1,6 @@
 // A query as it is handed over.
 ghost use mathlib.Core.Path.{_≡_};
 ghost use Prim.Native.Nat.{min};
-ghost use lib.ListN.{length};
 ghost use Rattle.c_api.specs.Handing.{places, «levels-of», «query-of», «level-numbers», «query-numbers», «outcome-refusal», «outcome-numbers»};
 use plant_text::Outcome;
 use query::Levels;

@@ -7,7 +7,7 @@ ghost use Rattle.index.specs.Index as indexes;
 ghost use Rattle.index.specs.Index.{index};
 ghost use Rattle.search.specs.Answer.{answer, «answer-list»};
 ghost use Rattle.search.specs.Promises.{Promised};
-ghost use Rattle.query_text.specs.QueryText.{read};
+ghost use Rattle.query_text.specs.QueryText.{«read-query»};
 ghost use Rattle.plant_text.specs.PlantText as texts;
 ghost use Rattle.plant_text.specs.PlantText.{room, «plant-after», «index-after»};
 ghost use Rattle.respond.specs.Respond.{Responds};
@@ -29,7 +29,7 @@ pub extern "C" fn plant_search_check(
     starts: &[u32],
     postings: &[u32],
 ) -> u32
-    ensures { λ r. ⌜ r ≡ indexes.refusal (plant (now (last .entry)) (now (root .entry)) (now (level .entry))) (index (now (terms .entry)) (now (starts .entry)) (now (postings .entry))) ⌝ }
+    ensures { λ r. ⌜ r ≡ indexes.tables-refusal (plant (now (last .entry)) (now (root .entry)) (now (level .entry))) (index (now (terms .entry)) (now (starts .entry)) (now (postings .entry))) ⌝ }
 {
     index::check(last, root, level, terms, starts, postings)
 }
@@ -78,8 +78,8 @@ pub extern "C" fn plant_search_read_plant(
     postings: &mut [u32],
     numbers: &mut [usize; 4],
 ) -> u32
-    ensures refusal { λ r. ⌜ r ≡ «outcome-refusal» (texts.answer (texts.read (room (plant (now (last .entry)) (now (root .entry)) (now (level .entry))) (index (now (terms .entry)) (now (starts .entry)) (now (postings .entry)))) (now (text .entry)))) ⌝ }
-    ensures numbers { λ _. ⌜ now (numbers .exit) ≡ «outcome-numbers» (texts.answer (texts.read (room (plant (now (last .entry)) (now (root .entry)) (now (level .entry))) (index (now (terms .entry)) (now (starts .entry)) (now (postings .entry)))) (now (text .entry)))) ⌝ }
+    ensures refusal { λ r. ⌜ r ≡ «outcome-refusal» (texts.«outcome-of» (texts.«read-plant» (room (plant (now (last .entry)) (now (root .entry)) (now (level .entry))) (index (now (terms .entry)) (now (starts .entry)) (now (postings .entry)))) (now (text .entry)))) ⌝ }
+    ensures numbers { λ _. ⌜ now (numbers .exit) ≡ «outcome-numbers» (texts.«outcome-of» (texts.«read-plant» (room (plant (now (last .entry)) (now (root .entry)) (now (level .entry))) (index (now (terms .entry)) (now (starts .entry)) (now (postings .entry)))) (now (text .entry)))) ⌝ }
     ensures plant { λ _. ⌜ plant (now (last .exit)) (now (root .exit)) (now (level .exit)) ≡ «plant-after» (now (text .entry)) (plant (now (last .entry)) (now (root .entry)) (now (level .entry))) (index (now (terms .entry)) (now (starts .entry)) (now (postings .entry))) ⌝ }
     ensures index { λ _. ⌜ index (now (terms .exit)) (now (starts .exit)) (now (postings .exit)) ≡ «index-after» (now (text .entry)) (plant (now (last .entry)) (now (root .entry)) (now (level .entry))) (index (now (terms .entry)) (now (starts .entry)) (now (postings .entry))) ⌝ }
 {
@@ -96,10 +96,10 @@ pub extern "C" fn plant_search_read_query(
     forbidden: &mut [u32; 8],
     numbers: &mut [usize; 8],
 ) -> u32
-    ensures refusal { λ r. ⌜ r ≡ read (now (text .entry)) .refusal ⌝ }
-    ensures required { λ _. ⌜ now (required .exit) ≡ read (now (text .entry)) .query .required ⌝ }
-    ensures forbidden { λ _. ⌜ now (forbidden .exit) ≡ read (now (text .entry)) .query .forbidden ⌝ }
-    ensures numbers { λ _. ⌜ now (numbers .exit) ≡ «query-numbers» (read (now (text .entry))) ⌝ }
+    ensures refusal { λ r. ⌜ r ≡ «read-query» (now (text .entry)) .refusal ⌝ }
+    ensures required { λ _. ⌜ now (required .exit) ≡ «read-query» (now (text .entry)) .query .required ⌝ }
+    ensures forbidden { λ _. ⌜ now (forbidden .exit) ≡ «read-query» (now (text .entry)) .query .forbidden ⌝ }
+    ensures numbers { λ _. ⌜ now (numbers .exit) ≡ «query-numbers» («read-query» (now (text .entry))) ⌝ }
 {
     let found = query_text::read(text);
     let query = found.query;

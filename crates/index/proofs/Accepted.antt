@@ -1,5 +1,5 @@
 -- What an accepted index says of each of its lists.
-use Prim.Native.Nat.{ℕ, zero, suc, _+_, _-_, _≤_, _<_}
+use Prim.Native.Nat.{ℕ, zero, suc, _+_, _≤_, _<_}
 use mathlib.Core.Path.{_≡_, sym}
 use mathlib.Core.Bool.{false, _||_}
 use mathlib.Core.List.{List, [], _∷_}
@@ -9,8 +9,11 @@ use Rattle.laws.specs.Search.{any, lowest}
 use Rattle.laws.specs.Tables.{entry}
 use Rattle.plant.specs.Plant as plants
 use Rattle.plant.specs.Plant.{Plant}
-use Rattle.index.specs.Postings.{device, misplaced, redundant}
-use Rattle.index.specs.Index.{Index, count, list, is-term, list-of, misplaced-term, wrong-start, stray, misplaced-in, redundant-in, unfit, index-refusal, refusal}
+use Rattle.laws.specs.inner.Entries.{IsEntry}
+use Rattle.index.specs.Postings.{device}
+use Rattle.index.specs.Forward.{Sorted}
+use Rattle.index.specs.inner.Lists.{SoundList}
+use Rattle.index.specs.Index.{Index, count, list, is-term, list-of, misplaced-term, wrong-start, stray, misplaced-in, redundant-in, unfit, index-refusal, tables-refusal}
 use Rattle.laws.proofs.Tests.{tests, or-no}
 use Rattle.laws.proofs.Cases.{by-order, split-cond}
 use Rattle.laws.proofs.Rows.{otherwise-none, pick-none}
@@ -23,13 +26,9 @@ abbrev pub Rising : ℕ → ℕ → List ℕ → Type 0
 Rising n a [] = Unit
 Rising n a (q ∷ qs) = (a < device q) × (device q ≤ n) × Rising n (device q) qs
 
--- the devices of a list do not fall, by index
-abbrev pub Sorted : List ℕ → Type 0
-Sorted l = (j k : ℕ) → j ≤ k → k < length l → device (getD l j 0) ≤ device (getD l k 0)
-
 -- what the rows come to where none applies
 pub record Accepted (P : Plant) (I : Index) : Type 0 where
-  pub tables : plants.refusal P ≡ 0
+  pub tables : plants.plant-refusal P ≡ 0
   pub even : length (I .starts) ≡ count I
   pub few-terms : count I ≤ 8192
   pub few-postings : length (I .postings) ≤ 1048576
@@ -39,10 +38,10 @@ pub record Accepted (P : Plant) (I : Index) : Type 0 where
   pub devices-rise : any (count I) (misplaced-in P I) ≡ false
   pub none-redundant : any (count I) (redundant-in P I) ≡ false
 
-pub accepted : (P : Plant) (I : Index) → refusal P I ≡ 0 → Accepted P I
-unfolding refusal
+pub accepted : (P : Plant) (I : Index) → tables-refusal P I ≡ 0 → Accepted P I
+unfolding tables-refusal
 accepted P I h =
-    let a = otherwise-none (plants.refusal P) (index-refusal P I) h in
+    let a = otherwise-none (plants.plant-refusal P) (index-refusal P I) h in
     let r5 = pick-none (unfit I) 4 _ (a .1) in
     let r6 = pick-none (any (count I) (misplaced-term I)) 5 _ (r5 .1) in
     let r7 = pick-none (any (count I) (wrong-start I) || stray I) 6 _ (r6 .1) in
@@ -74,32 +73,29 @@ rising-of n a (q ∷ qs) h = (h 0 (omega arith) .0, h 0 (omega arith) .1, rising
     step zero u = h 1 (omega arith)
     step (suc k) u = h (suc (suc k)) (omega arith)
 
--- a list of an accepted index, over a plant's table of last devices
-pub record SoundList (last l : List ℕ) : Type 0 where
-  pub rising : Rising (length last) 0 l
-  pub sorted : Sorted l
-  pub short : length l ≤ 1048576
-  pub none-misplaced : any (length l) (misplaced (length last) device l) ≡ false
-  pub none-redundant : any (length l) (redundant last l) ≡ false
+-- what a sound list is, device by device
+module _ {last l : List ℕ} (s : SoundList last l) where
+  pub sound-device : (k : ℕ) → k < length l → IsEntry last (device (getD l k 0))
+  sound-device k h =
+      let r = ranged (length last) device l (s .placed) (k + 1) (omega arith) (omega arith) in
+      let e = here device l k in
+      record { first = omega arith; last = omega arith }
 
-sound : (last l : List ℕ) → length l ≤ 1048576 → any (length l) (misplaced (length last) device l) ≡ false → any (length l) (redundant last l) ≡ false → SoundList last l
-sound last l s p q = record {
-  rising = rising-of (length last) 0 l above;
-  sorted = not-falling (length last) device l p;
-  short = s;
-  none-misplaced = p;
-  none-redundant = q;
-}
-  where
-    above : (k : ℕ) → k < length l → (prior 0 l k < device (getD l k 0)) × (device (getD l k 0) ≤ length last)
-    above zero u = let r = ranged (length last) device l p 1 (omega arith) (omega arith) in omega arith
-    above (suc k) u =
-        let e = here device l k in
-        let f = here device l (suc k) in
-        let r = ranged (length last) device l p (suc k + 1) (omega arith) (omega arith) in
-        let t = rises (length last) device l p (k + 1) (suc k + 1) (omega arith) (omega arith) (omega arith) in omega arith
+  pub sound-sorted : (f : ℕ) → Sorted l f
+  sound-sorted f j k a b u = not-falling (length last) device l (s .placed) j k b u
 
-module _ (P : Plant) (I : Index) (accepts : refusal P I ≡ 0) where
+  above : (k : ℕ) → k < length l → (prior 0 l k < device (getD l k 0)) × (device (getD l k 0) ≤ length last)
+  above zero u = let r = sound-device 0 u in omega arith
+  above (suc k) u =
+      let e = here device l k in
+      let f = here device l (suc k) in
+      let r = sound-device (suc k) u in
+      let t = rises (length last) device l (s .placed) (k + 1) (suc k + 1) (omega arith) (omega arith) (omega arith) in omega arith
+
+  pub sound-rising : Rising (length last) 0 l
+  sound-rising = rising-of (length last) 0 l above
+
+module _ (P : Plant) (I : Index) (accepts : tables-refusal P I ≡ 0) where
   -- each list starts no later than it ends, and ends within the postings
   pub bounds : (k : ℕ) → 1 ≤ k → k ≤ count I
       → (entry (I .starts) k ≤ getD (I .starts) k (length (I .postings))) × (getD (I .starts) k (length (I .postings)) ≤ length (I .postings))
@@ -117,11 +113,11 @@ module _ (P : Plant) (I : Index) (accepts : refusal P I ≡ 0) where
   pub accepted-list : (k : ℕ) → 1 ≤ k → k ≤ count I → SoundList (P .last) (list I k)
   accepted-list k a b =
       let h = accepted P I accepts in
-      sound (P .last) (list I k) (simp (length-drop, length-take) (omega arith)) (none-any _ (h .devices-rise) k a b) (none-any _ (h .none-redundant) k a b)
+      record { placed = none-any _ (h .devices-rise) k a b; single = none-any _ (h .none-redundant) k a b }
 
   -- the list of a term, absent or not
   pub accepted-list-of : (t : ℕ) → SoundList (P .last) (list-of I t)
   accepted-list-of t =
       split-cond (SoundList (P .last)) (any (count I) (is-term I t))
       (λ p. let k = lowest-of (is-term I t) (count I) p in accepted-list (lowest (count I) (is-term I t)) (k .first) (k .last))
-      (λ p. sound (P .last) [] (omega arith) (sym (any-none _ (none-yet _ 0))) (sym (any-none _ (none-yet _ 0))))
+      (λ p. record { placed = sym (any-none _ (none-yet _ 0)); single = sym (any-none _ (none-yet _ 0)) })

@@ -73,5 +73,5 @@ index-refusal P I =
     0))))
 
 -- the rows for device tables, and then those for the store: the lowest number that applies, or 0
-unfoldable pub refusal : Plant → Index → ℕ
-refusal P I = otherwise (plants.refusal P) (index-refusal P I)
+unfoldable pub tables-refusal : Plant → Index → ℕ
+tables-refusal P I = otherwise (plants.plant-refusal P) (index-refusal P I)

@@ -3,3 +3,4 @@ pub mod Index
 pub mod Around
 pub mod Lookup
 pub mod Forward
+pub mod inner

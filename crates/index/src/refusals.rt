@@ -11,7 +11,7 @@ ghost use lib.ListN.{length};
 ghost use Rattle.laws.specs.Search.{any};
 ghost use Rattle.plant.specs.Plant.{plant};
 ghost use Rattle.index.specs.Postings.{device, misplaced, redundant};
-ghost use Rattle.index.specs.Index.{index, wrong-start, stray, misplaced-in, redundant-in, refusal};
+ghost use Rattle.index.specs.Index.{index, wrong-start, stray, misplaced-in, redundant-in, tables-refusal};
 
 // The lowest refusal number that applies to the device tables and the index, or 0.
 pub fn check(
@@ -22,7 +22,7 @@ pub fn check(
     starts: &[u32],
     postings: &[u32],
 ) -> u32
-    ensures { λ r. ⌜ r ≡ refusal (plant (now (last .entry)) (now (root .entry)) (now (level .entry))) (index (now (terms .entry)) (now (starts .entry)) (now (postings .entry))) ⌝ }
+    ensures { λ r. ⌜ r ≡ tables-refusal (plant (now (last .entry)) (now (root .entry)) (now (level .entry))) (index (now (terms .entry)) (now (starts .entry)) (now (postings .entry))) ⌝ }
 {
     let refused = plant::check(last, root, level);
     if refused != 0 {

@@ -1,8 +1,8 @@
 -- Laws of lists: parts from one index up to another, and entries with another default.
-use Prim.Native.Nat.{ℕ, zero, suc, _-_, _≤_, _<_, min}
+use Prim.Native.Nat.{ℕ, zero, suc, _-_, _<_, min}
 use native.Mathlib.Omega.{arith}
 use mathlib.Core.List.{List, [], _∷_}
-use mathlib.Core.Path.{_≡_, refl, sym, _∙_}
+use mathlib.Core.Path.{_≡_, refl, _∙_}
 use lib.ListN.{length, getD, take, drop, length-take, drop-of-length-le}
 use lib.Seq.{slice, take-all, take-length, take-nil, drop-length}
 use Rattle.laws.proofs.Cases.{by-order}
@@ -26,7 +26,7 @@ take-clamped e l =
     by-order e (length l) (λ h. let q : min e (length l) ≡ e = omega arith in rw q)
     (λ h. let q : min e (length l) ≡ length l = omega arith in rw (q, take-all e l h, take-length l))
 
-drop-clamped : (a : ℕ) (l : List ℕ) → drop (min a (length l)) l ≡ drop a l
+pub drop-clamped : (a : ℕ) (l : List ℕ) → drop (min a (length l)) l ≡ drop a l
 drop-clamped a l =
     by-order a (length l) (λ h. let q : min a (length l) ≡ a = omega arith in rw q)
     (λ h. let q : min a (length l) ≡ length l = omega arith in rw (q, drop-of-length-le l {i = a} h) (drop-length l))

@@ -1,3 +1,6 @@
-pub mod Search
-pub mod Rows
+pub mod Limits
 pub mod Tables
+pub mod Rows
+pub mod Search
+pub mod Front
+pub mod inner

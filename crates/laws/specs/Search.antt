@@ -1,6 +1,6 @@
 -- Conditions over all numbers 1 to n: over all devices of a plant, all terms of an index, all postings of a list.
 use Prim.Native.Nat.{ℕ, zero, suc}
-use mathlib.Core.Bool.{Bool, true, false, _||_}
+use mathlib.Core.Bool.{Bool, false, _||_}
 use Rattle.laws.specs.Rows.{pick}
 
 -- whether some number of 1 to n passes a test

@@ -7,7 +7,7 @@ use native.Mathlib.Omega.{arith}
 use lib.ListN.{length}
 use Rattle.laws.specs.Search.{any}
 use Rattle.laws.specs.Tables.{entry}
-use Rattle.plant.specs.Plant.{Plant, size, holds, out-of-range, overlap, overlaps, root-of, wrong-root, uneven, refusal}
+use Rattle.plant.specs.Plant.{Plant, size, holds, out-of-range, overlap, overlaps, root-of, wrong-root, uneven, plant-refusal}
 use Rattle.laws.proofs.Tests.{tests, flags}
 use Rattle.laws.proofs.Cases.{by-order}
 use Rattle.laws.proofs.Search.{none-any, any-found, lowest-is, Lowest, lowest-of}
@@ -73,8 +73,8 @@ pub record Sound (P : Plant) : Type 0 where
 root-lowest : (last : List ℕ) (d : ℕ) → 1 ≤ d → d ≤ entry last d → Lowest (λ e. holds last e d) d (root-of last d)
 root-lowest last d l u = lowest-of _ d (sym (any-found _ d (l, omega arith) (simp tests (omega arith))))
 
-pub accepted : (P : Plant) → refusal P ≡ 0 → Sound P
-unfolding refusal
+pub accepted : (P : Plant) → plant-refusal P ≡ 0 → Sound P
+unfolding plant-refusal
 accepted P h =
     let a = pick-none (uneven P) 0 _ h in
     let b = pick-none (any (size P) (out-of-range (P .last))) 1 _ (a .1) in

@@ -52,8 +52,8 @@ abbrev pub wrong-root : List ℕ → List ℕ → ℕ → Bool
 wrong-root last root d = not (eqb (entry root d) (root-of last d))
 
 -- document 01's rows for device tables: the lowest number that applies, or 0
-unfoldable pub refusal : Plant → ℕ
-refusal P =
+unfoldable pub plant-refusal : Plant → ℕ
+plant-refusal P =
     pick (uneven P) 1
     (pick (any (size P) (out-of-range (P .last))) 2
     (pick (any (size P) (overlaps (P .last))) 3

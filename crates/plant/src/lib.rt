@@ -4,12 +4,12 @@ ghost use mathlib.Core.Bool.{false};
 ghost use Prim.Native.Nat.{ℕ, _≤_, _<_};
 ghost use lib.ListN.{length};
 ghost use Rattle.laws.specs.Search.{any};
-ghost use Rattle.laws.specs.Tables.{entry, IsEntry};
-ghost use Rattle.plant.specs.Plant.{plant, out-of-range, overlaps, wrong-root, refusal};
+ghost use Rattle.laws.specs.Tables.{entry};
+ghost use Rattle.plant.specs.Plant.{plant, out-of-range, overlaps, wrong-root, plant-refusal};
 
 // The lowest refusal number that applies to the tables, or 0.
 pub fn check(last: &[u16], root: &[u16], level: &[u8]) -> u32
-    ensures { λ r. ⌜ r ≡ refusal (plant (now (last .entry)) (now (root .entry)) (now (level .entry))) ⌝ }
+    ensures { λ r. ⌜ r ≡ plant-refusal (plant (now (last .entry)) (now (root .entry)) (now (level .entry))) ⌝ }
 {
     if root.len() != last.len() || level.len() != last.len() || 65535 < last.len() {
         return 1;

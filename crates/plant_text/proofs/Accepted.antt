@@ -18,7 +18,7 @@ use Rattle.index.proofs.Accepted.{Accepted}
 use Rattle.text.specs.Reading.{Read, made, no, unless, and-then, read-lines}
 use Rattle.text.specs.Lines.{lines}
 use Rattle.plant_text.specs.Form.{form, is-unfinished}
-use Rattle.plant_text.specs.PlantText.{Stage, start, devices, terms, postings, closed, State, nothing, rank, is, empty, stands, unopened, out-of-range, too-deep, no-place, not-rising, is-redundant, refusal, next, posting, close, close-device, line, end, read, kept}
+use Rattle.plant_text.specs.PlantText.{Stage, start, devices, terms, postings, closed, State, nothing, rank, is, empty, stands, unopened, out-of-range, too-deep, no-place, not-rising, is-redundant, line-refusal, next, posting, close, close-device, line, end, read-plant, kept}
 use Rattle.plant_text.specs.declared.Room.{Room}
 use Rattle.plant_text.specs.declared.lines.Form.{Form}
 use Rattle.plant_text.specs.declared.lines.Form.the-variants as form
@@ -35,8 +35,8 @@ record Passed (m : State) (f : Form) : Type 0 where
   rising : not-rising m f ≡ false
   single : is-redundant m f ≡ false
 
-passed : (r : Room) (m : State) (f : Form) → refusal r m f ≡ 0 → Passed m f
-unfolding refusal
+passed : (r : Room) (m : State) (f : Form) → line-refusal r m f ≡ 0 → Passed m f
+unfolding line-refusal
 passed r m f h =
     let r25 = pick-none (is closed m) 24 _ h in
     let r24 = pick-none (is-unfinished f) 23 _ (r25 .1) in
@@ -213,7 +213,7 @@ unless-made zero s k f m h = (refl, h)
 unless-made (suc x) s k f m h = not-made (suc x) k m h
 
 -- bytes end well only after the closing line
-ended : (r : Room) (m : State) (tail : List ℕ) → pick (is closed m && empty tail) 0 (refusal r m form.Unfinished) ≡ 0 → is closed m ≡ true
+ended : (r : Room) (m : State) (tail : List ℕ) → pick (is closed m && empty tail) 0 (line-refusal r m form.Unfinished) ≡ 0 → is closed m ≡ true
 ended r m tail h =
     either (is closed m && empty tail) (λ e. and-yes (is closed m) (empty tail) .0 e .0)
     (λ e. absurd (true≢false (sym (passed r m form.Unfinished (rw e at h) .here))))
@@ -227,17 +227,17 @@ read-accepted r [] tail s k m i few h =
     let z : s ≡ m = ap kept (u .1) in
     rw z at (at s i closed e)
 read-accepted r (l ∷ ls) tail s k m i few h =
-    let u = unless-made (refusal r s (form l)) (next s (form l)) k _ m h in
+    let u = unless-made (line-refusal r s (form l)) (next s (form l)) k _ m h in
     let c = form-cost l in
     let n = steps s i (form l) (passed r s (form l) (u .0)) (omega arith) in
     let w = n .weighs in
     read-accepted r ls tail (next s (form l)) (k + 1) m (n .holds) (omega arith) (u .1)
 
 -- the tables that an accepted text makes are refused by none of 1 to 9
-pub passes : (r : Room) (text : List ℕ) (m : State) → read r text ≡ made m → indexes.refusal (m .plant) (m .index) ≡ 0
-unfolding read
+pub passes : (r : Room) (text : List ℕ) (m : State) → read-plant r text ≡ made m → indexes.tables-refusal (m .plant) (m .index) ≡ 0
+unfolding read-plant
 passes r text m =
-    split-cond (λ x. x ≡ made m → indexes.refusal (m .plant) (m .index) ≡ 0) (ltb 65536 (length text)) (λ e h. not-made 20 0 m h)
+    split-cond (λ x. x ≡ made m → indexes.tables-refusal (m .plant) (m .index) ≡ 0) (ltb 65536 (length text)) (λ e h. not-made 20 0 m h)
     (λ e h.
     let b = lines-bytes text in
     let u = simp tests at e in

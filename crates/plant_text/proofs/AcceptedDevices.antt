@@ -11,7 +11,7 @@ use Rattle.laws.specs.Tables.{entry}
 use Rattle.laws.proofs.Tests.{tests}
 use Rattle.laws.proofs.Cases.{by-order, cases}
 use Rattle.laws.proofs.Search.{any-none, lowest-is}
-use Rattle.plant.specs.Plant.{Plant, plant, size, refusal, uneven, out-of-range, overlap, overlaps, root-of, wrong-root}
+use Rattle.plant.specs.Plant.{Plant, plant, size, plant-refusal, uneven, out-of-range, overlap, overlaps, root-of, wrong-root}
 use Rattle.plant.proofs.Forest.{Sound}
 use Rattle.plant_text.specs.PlantText.{outermost}
 use Rattle.plant_text.proofs.Lists.{entry-before, entry-new}
@@ -287,8 +287,8 @@ module _ (ds : List ℕ) (P : Plant) where
       }
 
 -- with no device open the tables are those that a check accepts
-pub growing-end : (P : Plant) → Growing [] P → refusal P ≡ 0
-unfolding refusal shut
+pub growing-end : (P : Plant) → Growing [] P → plant-refusal P ≡ 0
+unfolding plant-refusal shut
 growing-end P g =
     let s = g .sound in
     let even : uneven P ≡ false = let a = s .roots in let b = s .levels in let c = s .few in simp tests (omega arith) in

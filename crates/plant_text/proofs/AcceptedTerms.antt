@@ -15,19 +15,19 @@ use Rattle.laws.proofs.Search.{any-none, none-any}
 use Rattle.plant.specs.Plant as plants
 use Rattle.plant.specs.Plant.{Plant, size}
 use Rattle.index.specs.Postings.{device, shadowed}
-use Rattle.index.specs.Index.{Index, index, count, list, unfit, wrong-start, misplaced-in, redundant-in, refusal}
+use Rattle.index.specs.Index.{Index, index, count, list, unfit, wrong-start, misplaced-in, redundant-in, tables-refusal}
 use Rattle.index.proofs.Accepted.{Accepted, bounds}
 use Rattle.plant_text.specs.Terms.{Sound}
 use Rattle.plant_text.proofs.Lists.{entry-before, entry-new, placed-more, sound-none, sound-more}
 
 -- what is accepted is refused by none of 1 to 9
-pub accepts : (P : Plant) (I : Index) → Accepted P I → refusal P I ≡ 0
-unfolding refusal
+pub accepts : (P : Plant) (I : Index) → Accepted P I → tables-refusal P I ≡ 0
+unfolding tables-refusal
 accepts P I a =
     let fit : unfit I ≡ false = let x = a .even in let y = a .few-terms in let z = a .few-postings in simp tests (omega arith) in
     rw (a .tables, fit, a .terms-rise, a .starts-rise, a .none-stray, a .devices-rise, a .none-redundant)
 
-pub accepted-none : (P : Plant) → plants.refusal P ≡ 0 → Accepted P (index [] [] [])
+pub accepted-none : (P : Plant) → plants.plant-refusal P ≡ 0 → Accepted P (index [] [] [])
 unfolding any
 accepted-none P h = record {
   tables = h;

@@ -10,7 +10,7 @@ use Rattle.text.specs.Decimal.{decimal, number}
 use Rattle.text.specs.Words.{after}
 use Rattle.text.specs.Reading.{made, read-lines}
 use Rattle.plant_text.specs.Form.{form}
-use Rattle.plant_text.specs.PlantText.{closed, refusal, next, read, places}
+use Rattle.plant_text.specs.PlantText.{closed, line-refusal, next, read-plant, places}
 
 abbrev text : List ℕ
 text =
@@ -58,11 +58,11 @@ text =
     41 ∷ 10 ∷ []
 
 -- "P has N = 6, last 6, 3, 3, 6, 5, 6, all roots 1, postings 5, 10, 9."
-pub plant-P : read (places 6 6 6 2 2 3) text ≡ made (record {
+pub plant-P : read-plant (places 6 6 6 2 2 3) text ≡ made (record {
   stage = closed;
   opened = [];
   plant = plant (6 ∷ 3 ∷ 3 ∷ 6 ∷ 5 ∷ 6 ∷ []) (1 ∷ 1 ∷ 1 ∷ 1 ∷ 1 ∷ 1 ∷ []) (120 ∷ 118 ∷ 255 ∷ 121 ∷ 90 ∷ 119 ∷ []);
   index = index (7 ∷ 9 ∷ []) (0 ∷ 2 ∷ []) (5 ∷ 10 ∷ 9 ∷ []);
 })
-unfolding any lines decimal number after read-lines form refusal next read
+unfolding any lines decimal number after read-lines form line-refusal next read-plant
 plant-P = refl

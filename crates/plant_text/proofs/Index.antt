@@ -1,8 +1,8 @@
 -- Laws of the reader of terms.
-use Prim.Native.Nat.{ℕ, suc, _+_, _-_, _<_, _≤_}
+use Prim.Native.Nat.{ℕ, _+_, _-_, _<_, _≤_}
 use mathlib.Core.Path.{_≡_, refl, sym, ap, _∙_, subst}
-use mathlib.Core.Bool.{Bool, true, false, _||_}
-use mathlib.Core.List.{List, [], _∷_, _++_}
+use mathlib.Core.Bool.{false, _||_}
+use mathlib.Core.List.{List}
 use native.Mathlib.Numerals.{add-one}
 use native.Mathlib.Omega.{arith}
 use lib.Dec.{leb, ltb, eqb}
@@ -19,9 +19,9 @@ use Rattle.index.specs.Index.{index}
 use Rattle.text.specs.Reading.{Read, no}
 use Rattle.text.specs.declared.Number.{Number}
 use Rattle.text.specs.declared.Number.the-variants.{Value, Missing}
-use Rattle.plant_text.specs.PlantText.{State, terms, postings, closed, refusal, next}
-use Rattle.plant_text.specs.Rest.{from, Lexed, Stands, term-of, end-refusal}
-use Rattle.plant_text.specs.Terms.{Before, SamePosts, PostsAt, PostsRead, posts-result, from-posting, FitsIndex, terms-made, OpensTerm, SameTerms, at-term, TermsAt, ClosedAt, TermsStart}
+use Rattle.plant_text.specs.PlantText.{State, terms, postings, line-refusal, next}
+use Rattle.plant_text.specs.Rest.{Lexed, Stands, term-of, end-refusal}
+use Rattle.plant_text.specs.Terms.{Before, SamePosts, PostsAt, PostsRead, posts-result, from-posting, terms-made, OpensTerm, SameTerms, at-term, TermsAt, ClosedAt, TermsStart}
 use Rattle.plant_text.specs.declared.Room.{Room}
 use Rattle.plant_text.specs.declared.lines.Form.{Form}
 use Rattle.plant_text.specs.declared.lines.Form.the-variants.{Plant, Device, Term, Posting, Close, Other, Unfinished}
@@ -41,8 +41,8 @@ module _ (l : List ℕ) (n : ℕ) (h : n ≤ length l) where
 -- the rows of a term line, with the code's counts in their places
 module _ (r : Room) (T S : List ℕ) (n p v : ℕ) {q x : ℕ} (hn : n ≤ r .terms) (ht : r .terms ≤ length T) (hs : r .terms ≤ length S) (eq : q ≡ entry (take n T) n)
     (ex : x ≡ pick (eqb v 0 || ltb 65535 v) 22 (pick (leb (r .terms) n) 27 (pick (leb v q) 28 0))) where
-  rows : (P : plants.Plant) (L : List ℕ) → refusal r (terms-made P (index T S L) n p terms) (Term v) ≡ x
-  unfolding refusal
+  rows : (P : plants.Plant) (L : List ℕ) → line-refusal r (terms-made P (index T S L) n p terms) (Term v) ≡ x
+  unfolding line-refusal
   rows P L = rw (length-take-le n T (omega arith), ← eq) (sym ex)
 
   pub term-barred : (x ≡ 0 → ⊥) → OpensTerm r T S n p v T S x
@@ -73,8 +73,8 @@ module _ (r : Room) (T S : List ℕ) (n p v : ℕ) {q x : ℕ} (hn : n ≤ r .te
 
 -- a form that is no term and does not close the plant is refused between terms
 not-term : (r : Room) (P : plants.Plant) (X : indexes.Index) (n p : ℕ) (f : Form) → term-of f ≡ Missing → (end-refusal 1 f ≡ 0 → ⊥) →
-    refusal r (terms-made P X n p terms) f ≡ end-refusal 1 f
-unfolding refusal
+    line-refusal r (terms-made P X n p terms) f ≡ end-refusal 1 f
+unfolding line-refusal
 not-term r P X n p Plant e h = refl
 not-term r P X n p (Device k) e h = refl
 not-term r P X n p (Term k) e h = cc
@@ -114,7 +114,7 @@ module _ {r : Room} {t last T S L : List ℕ} {count at k n p : ℕ} {A : plants
       closing-stands = e .stands (finished closes refl)
 
       pub terms-closed : ClosedAt r t last count A (index T S L) at (k + 1) n p
-      unfolding refusal next
+      unfolding line-refusal next
       terms-closed = record {
         reads = record {
           same = λ P g. e .reads .same P g ∙ rw closes (form-taken r (terms-made P (index T S L) n p terms) k (drop at t) Close refl refl);

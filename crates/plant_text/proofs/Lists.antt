@@ -9,11 +9,12 @@ use lib.Dec.{leb}
 use lib.ListN.{length, length-append, List·getD-append, List·getD-eq-default}
 use lib.Seq.{getD-at}
 use Rattle.laws.specs.Search.{any}
-use Rattle.laws.specs.Tables.{entry, IsEntry}
+use Rattle.laws.specs.Tables.{entry}
+use Rattle.laws.specs.inner.Entries.{IsEntry}
 use Rattle.laws.proofs.Tests.{tests}
 use Rattle.laws.proofs.Cases.{by-order}
-use Rattle.laws.proofs.Search.{None, any-none, none-any}
-use Rattle.index.specs.Postings.{device, shared, reach, misplaced, shadowed, redundant}
+use Rattle.laws.proofs.Search.{any-none, none-any}
+use Rattle.index.specs.Postings.{device, shared, reach, misplaced, shadowed}
 use Rattle.index.proofs.Lists.{ranged, rises, reaches, shadowed-last}
 use Rattle.plant_text.specs.Terms.{Sound}
 

@@ -1,13 +1,13 @@
 -- Laws of the readers of devices: what reading comes to before and after each step.
 use Prim.Native.Nat.{ℕ, suc, _+_, _-_, _<_, _≤_}
-use mathlib.Core.Path.{_≡_, refl, sym, ap, _∙_, subst}
-use mathlib.Core.Bool.{Bool, true, false, cond}
-use mathlib.Core.List.{List, [], _∷_}
+use mathlib.Core.Path.{_≡_, refl, sym, _∙_, subst}
+use mathlib.Core.Bool.{cond}
+use mathlib.Core.List.{List, _∷_}
 use native.Mathlib.Numerals.{add-one}
 use native.Mathlib.Omega.{arith}
 use borrow.Author.Tests.{ne-eqb}
 use lib.Dec.{leb, ltb, eqb}
-use lib.ListN.{length, take, drop, set, length-set}
+use lib.ListN.{length, drop, set, length-set}
 use lib.Seq.{length-take-le, take-suc-set, take-set-lt}
 use Rattle.laws.specs.Rows.{pick}
 use Rattle.laws.proofs.Rows.{pick-none}
@@ -17,8 +17,7 @@ use Rattle.plant.specs.Plant.{plant}
 use Rattle.text.specs.Reading.{Read, no}
 use Rattle.text.specs.declared.Number.{Number}
 use Rattle.text.specs.declared.Number.the-variants.{Value, Missing}
-use Rattle.plant_text.specs.Form.{is-unfinished}
-use Rattle.plant_text.specs.PlantText.{State, refusal, next, outermost}
+use Rattle.plant_text.specs.PlantText.{State, line-refusal, next}
 use Rattle.plant_text.specs.Rest.{Lexed, Stands, level-of, end-refusal}
 use Rattle.plant_text.specs.Devices.{Fits, devices-made, Stack, Opens, from-device, at-form, Same, Ends, Stops, DeviceRead, device-result, ListRead, list-result}
 use Rattle.plant_text.specs.declared.Room.{Room}
@@ -39,8 +38,8 @@ module _ (r : Room) (count depth n : ℕ) {x : ℕ} (e : x ≡ pick (ltb 255 n) 
       let c = pick-none (leb (r .devices) count) 26 _ (b .1) in
       (omega (flags, a .0), omega (flags, b .0), omega (flags, c .0))
 
-  rows : (T : plants.Plant) → Fits r T → count ≤ r .devices → (stack : List ℕ) → length stack ≡ depth → refusal r (devices-made T count stack) (Device n) ≡ x
-  unfolding refusal
+  rows : (T : plants.Plant) → Fits r T → count ≤ r .devices → (stack : List ℕ) → length stack ≡ depth → line-refusal r (devices-made T count stack) (Device n) ≡ x
+  unfolding line-refusal
   rows T f h stack s = rw (length-take-le count (T .last) (omega (arith, f .last)), s) (sym e)
 
   pub open-refused : {T : plants.Plant} {out : ℕ} → Fits r T → count ≤ r .devices → (x ≡ 0 → ⊥) → Opens r T count depth out n T x
@@ -130,8 +129,8 @@ module _ {r : Room} {t : List ℕ} {T : plants.Plant} {depth top since count a k
 
 -- a form that ends no device is refused within one
 not-ended : (r : Room) (T : plants.Plant) (c d depth : ℕ) (stack : List ℕ) (f : Form) → level-of f ≡ Missing → (end-refusal (depth + 2) f ≡ 0 → ⊥) →
-    refusal r (devices-made T c (d ∷ stack)) f ≡ end-refusal (depth + 2) f
-unfolding refusal
+    line-refusal r (devices-made T c (d ∷ stack)) f ≡ end-refusal (depth + 2) f
+unfolding line-refusal
 not-ended r T c d depth stack Plant e h = refl
 not-ended r T c d depth stack (Device n) e h = cc
 not-ended r T c d depth stack (Term n) e h = refl
@@ -142,8 +141,8 @@ not-ended r T c d depth stack Unfinished e h = refl
 
 -- the closing bracket of the innermost device
 module _ (r : Room) (T : plants.Plant) (c d : ℕ) (h : d < c) (l : c ≤ length (T .last)) (stack : List ℕ) where
-  close-refusal : refusal r (devices-made T c ((d + 1) ∷ stack)) Close ≡ 0
-  unfolding refusal
+  close-refusal : line-refusal r (devices-made T c ((d + 1) ∷ stack)) Close ≡ 0
+  unfolding line-refusal
   close-refusal = rw (ne-eqb (suc (suc (length stack))) 0 (omega arith))
 
   close-next : next (devices-made T c ((d + 1) ∷ stack)) Close ≡ devices-made (plant (set (T .last) d c) (T .root) (T .level)) c stack

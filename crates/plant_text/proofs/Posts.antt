@@ -1,6 +1,6 @@
 -- Laws of the reader of postings.
-use Prim.Native.Nat.{ℕ, suc, _+_, _-_, _*_, _/_, _<_, _≤_}
-use mathlib.Core.Path.{_≡_, refl, sym, ap, _∙_, subst}
+use Prim.Native.Nat.{ℕ, _+_, _-_, _<_, _≤_}
+use mathlib.Core.Path.{_≡_, refl, sym, ap, _∙_}
 use mathlib.Core.Bool.{Bool, true, false, _||_}
 use mathlib.Core.List.{List, [], _∷_, _++_}
 use native.Mathlib.Numerals.{add-one}
@@ -9,13 +9,14 @@ use lib.Dec.{leb, ltb, eqb}
 use lib.ListN.{length, getD, take, drop, set, length-set, List·getD-eq-default}
 use lib.Seq.{slice, length-slice, length-take-le, take-length, take-suc-set, drop-append-le, getD-take, getD-drop}
 use Rattle.laws.specs.Rows.{pick}
-use Rattle.laws.specs.Tables.{entry, IsEntry}
+use Rattle.laws.specs.Tables.{entry}
+use Rattle.laws.specs.inner.Entries.{IsEntry}
 use Rattle.laws.proofs.Rows.{pick-none}
 use Rattle.laws.proofs.Tests.{flags}
 use Rattle.laws.proofs.Cases.{either}
 use Rattle.index.specs.Postings.{device, shared, reach, shadowed}
 use Rattle.text.specs.Reading.{Read, no}
-use Rattle.plant_text.specs.PlantText.{State, postings, terms, current, posting, refusal, next}
+use Rattle.plant_text.specs.PlantText.{State, postings, terms, current, posting, line-refusal, next}
 use Rattle.plant_text.specs.Rest.{from-form, Lexed, Stands, posting-of, end-refusal}
 use Rattle.plant_text.specs.Terms.{Sound, Before, posts-made, Adds, from-posting, SamePosts, PostsAt}
 use Rattle.plant_text.specs.declared.Room.{Room}
@@ -81,8 +82,8 @@ module _ (r : Room) (last posts : List ℕ) (count begin n : ℕ) {q : ℕ} (hc 
     shadow-is a u =
         shadowed-newest (take count last) (slice begin n posts) sound d a (rw (← newest) u) ∙ rw (← newest, ← far-is)
 
-    rows : (s : Bool) (m : State) → Before last count begin m → refusal r (posts-made m posts n postings) (Posting d s) ≡ x
-    unfolding refusal
+    rows : (s : Bool) (m : State) → Before last count begin m → line-refusal r (posts-made m posts n postings) (Posting d s) ≡ x
+    unfolding line-refusal
     rows s m b =
         rw (current-is m b, b .lasts, length-take-le count last hc, length-take-le n posts (omega arith), ← newest)
         (same-rows (eqb d 0 || ltb count d) (leb (r .postings) n) (leb d (device q)) (shadowed (take count last) (slice begin n posts) d) (leb d far)
@@ -121,8 +122,8 @@ module _ (r : Room) (last posts : List ℕ) (count begin n : ℕ) {q : ℕ} (hc 
 
 -- a form that is no posting and does not end a term is refused within one
 not-posting : (r : Room) (m : State) (posts : List ℕ) (n : ℕ) (f : Form) → posting-of f ≡ Nothing → (end-refusal 2 f ≡ 0 → ⊥) →
-    refusal r (posts-made m posts n postings) f ≡ end-refusal 2 f
-unfolding refusal
+    line-refusal r (posts-made m posts n postings) f ≡ end-refusal 2 f
+unfolding line-refusal
 not-posting r m posts n Plant e h = refl
 not-posting r m posts n (Device k) e h = refl
 not-posting r m posts n (Term k) e h = refl
@@ -171,7 +172,7 @@ module _ {r : Room} {t last posts : List ℕ} {count begin since a k n nxt : ℕ
       ending-stands = stands-next (e .stands) x (finished closes refl) n (omega arith)
 
       pub posts-ended : PostsAt r t last count begin A (since + 1) terms posts nxt (k + 1) n
-      unfolding refusal next
+      unfolding line-refusal next
       posts-ended =
           let m = lexed-moves x (finished closes refl) in
           record {

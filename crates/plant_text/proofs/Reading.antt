@@ -1,6 +1,6 @@
 -- Laws of reading: what a line that is refused or taken leaves, and what the code's form of a line says of the reading.
-use Prim.Native.Nat.{ℕ, zero, suc, _+_, _<_, _≤_, min}
-use mathlib.Core.Path.{_≡_, refl, sym, ap, _∙_}
+use Prim.Native.Nat.{ℕ, _+_, _<_, _≤_, min}
+use mathlib.Core.Path.{_≡_, refl, sym, _∙_}
 use mathlib.Core.Bool.{Bool, true, false, not, _||_, _&&_, true≢false}
 use mathlib.Core.List.{List}
 use native.Mathlib.Omega.{arith}
@@ -10,42 +10,42 @@ use Rattle.laws.specs.Rows.{pick}
 use Rattle.laws.proofs.Cases.{by-order}
 use Rattle.plant.specs.Plant.{size}
 use Rattle.text.specs.Lines.{line-at}
-use Rattle.text.specs.Reading.{Read, no, unless, and-then}
+use Rattle.text.specs.Reading.{no}
 use Rattle.text.proofs.Decimal.{by-cap}
 use Rattle.text.proofs.Reading as texts
 use Rattle.plant_text.specs.Form.{form, is-unfinished}
-use Rattle.plant_text.specs.PlantText.{State, is, devices, terms, postings, closed, empty, refusal, next, line, end}
+use Rattle.plant_text.specs.PlantText.{State, is, devices, terms, postings, closed, empty, line-refusal, next, line, end}
 use Rattle.plant_text.specs.Rest.{from, from-form, capped-form, Lexed, Stands, level-of, term-of, posting-of, end-refusal}
-use Rattle.text.specs.declared.Number.the-variants.{Value, Missing}
-use Rattle.plant_text.specs.declared.lines.Posted.the-variants.{Here, Nothing}
+use Rattle.text.specs.declared.Number.the-variants.{Value}
+use Rattle.plant_text.specs.declared.lines.Posted.the-variants.{Here}
 use Rattle.plant_text.specs.declared.Room.{Room}
 use Rattle.plant_text.specs.declared.lines.Form.{Form}
 use Rattle.plant_text.specs.declared.lines.Form.the-variants.{Plant, Device, Term, Posting, Close, Other, Unfinished}
 
 module _ (r : Room) (m : State) (k : ℕ) (s : List ℕ) where
   -- line k is refused, or taken
-  pub form-refused : (f : Form) (x : ℕ) → refusal r m f ≡ x → (x ≡ 0 → ⊥) → from-form r m f k s ≡ no x k
+  pub form-refused : (f : Form) (x : ℕ) → line-refusal r m f ≡ x → (x ≡ 0 → ⊥) → from-form r m f k s ≡ no x k
   form-refused f x e h = rw e (texts.stops (λ m′. from r m′ (k + 1) s) x k (next m f) h)
 
-  pub form-taken : (f : Form) {m′ : State} → refusal r m f ≡ 0 → next m f ≡ m′ → from-form r m f k s ≡ from r m′ (k + 1) s
+  pub form-taken : (f : Form) {m′ : State} → line-refusal r m f ≡ 0 → next m f ≡ m′ → from-form r m f k s ≡ from r m′ (k + 1) s
   form-taken f e q = rw (e, q)
 
   -- two forms that are refused by 25, 21 or 22, as where each may stand and none is in range
-  outside : (f g : Form) (a b : Bool) → refusal r m f ≡ pick a 25 (pick b 21 22) → refusal r m g ≡ pick a 25 (pick b 21 22) → from-form r m f k s ≡ from-form r m g k s
+  outside : (f g : Form) (a b : Bool) → line-refusal r m f ≡ pick a 25 (pick b 21 22) → line-refusal r m g ≡ pick a 25 (pick b 21 22) → from-form r m f k s ≡ from-form r m g k s
   outside f g true b p q = rw (p, q)
   outside f g false true p q = rw (p, q)
   outside f g false false p q = rw (p, q)
 
-  high-device : (n : ℕ) → 65535 < n → refusal r m (Device n) ≡ pick (is closed m) 25 (pick (not (is devices m)) 21 22)
-  unfolding refusal
+  high-device : (n : ℕ) → 65535 < n → line-refusal r m (Device n) ≡ pick (is closed m) 25 (pick (not (is devices m)) 21 22)
+  unfolding line-refusal
   high-device n h = rw (lt-ltb 255 n (omega arith))
 
-  high-term : (n : ℕ) → 65535 < n → refusal r m (Term n) ≡ pick (is closed m) 25 (pick (not (is terms m || (is devices m && empty (m .opened)))) 21 22)
-  unfolding refusal
+  high-term : (n : ℕ) → 65535 < n → line-refusal r m (Term n) ≡ pick (is closed m) 25 (pick (not (is terms m || (is devices m && empty (m .opened)))) 21 22)
+  unfolding line-refusal
   high-term n h = rw (ne-eqb n 0 (omega arith), lt-ltb 65535 n h)
 
-  high-posting : size (m .plant) ≤ 65535 → (d : ℕ) (b : Bool) → 65535 < d → refusal r m (Posting d b) ≡ pick (is closed m) 25 (pick (not (is postings m)) 21 22)
-  unfolding refusal
+  high-posting : size (m .plant) ≤ 65535 → (d : ℕ) (b : Bool) → 65535 < d → line-refusal r m (Posting d b) ≡ pick (is closed m) 25 (pick (not (is postings m)) 21 22)
+  unfolding line-refusal
   high-posting z d b h = rw (ne-eqb d 0 (omega arith), lt-ltb (size (m .plant)) d (omega arith))
 
   -- a number above 65,535 is refused as 65,536 is
@@ -64,7 +64,7 @@ module _ (r : Room) (m : State) (k : ℕ) (s : List ℕ) where
 -- before the plant is closed, what is read from an index on is what its line does, and what is read from the next on
 module _ {t : List ℕ} {at nxt : ℕ} {f : Form} (x : Lexed t at f nxt) (r : Room) (m : State) (k : ℕ) where
   pub reading-form : size (m .plant) ≤ 65535 → is closed m ≡ false → from r m k (drop at t) ≡ from-form r m f k (drop nxt t)
-  unfolding refusal
+  unfolding line-refusal
   reading-form z o =
       by-order at nxt
       (λ l. let w = x .whole l in

@@ -1,8 +1,8 @@
 -- Laws of the reader of a whole text.
-use Prim.Native.Nat.{ℕ, suc, _+_, _-_, _<_, _≤_, min, zero-le}
-use mathlib.Core.Path.{_≡_, refl, sym, ap, _∙_, subst}
-use mathlib.Core.Bool.{Bool, true, false}
-use mathlib.Core.List.{List, [], _∷_, _++_}
+use Prim.Native.Nat.{ℕ, _+_, _-_, _<_, _≤_, zero-le}
+use mathlib.Core.Path.{_≡_, refl, sym, _∙_, subst}
+use mathlib.Core.Bool.{true}
+use mathlib.Core.List.{List, [], _++_}
 use native.Mathlib.Omega.{arith}
 use borrow.Author.Tests.{lt-ltb, le-ltb}
 use lib.ListN.{length, take, drop, replicate, drop-of-length-le}
@@ -14,10 +14,10 @@ use Rattle.index.specs.Index as indexes
 use Rattle.index.specs.Index.{index}
 use Rattle.text.specs.Lines.{line-at}
 use Rattle.text.specs.Reading.{Read, made, no}
-use Rattle.text.specs.declared.Number.the-variants.{Value, Missing}
+use Rattle.text.specs.declared.Number.the-variants.{Missing}
 use Rattle.text.proofs.Reading as texts
 use Rattle.plant_text.specs.Form.{form}
-use Rattle.plant_text.specs.PlantText.{State, nothing, is, terms, closed, refusal, next, line, end, read, room, answer, kept, filled, plant-after, index-after}
+use Rattle.plant_text.specs.PlantText.{State, nothing, is, terms, closed, line-refusal, next, line, end, read-plant, room, outcome-of, kept, filled, plant-after, index-after}
 use Rattle.plant_text.specs.Rest.{from, from-form, Lexed, Stands, level-of, start-refusal}
 use Rattle.plant_text.specs.Devices.{Fits, front, Same, Stops, ListRead, list-result, devices-made, from-device}
 use Rattle.plant_text.specs.Terms.{FitsIndex, terms-made, SameTerms, ClosedAt, at-term, TermsStart, TermsRead, terms-result}
@@ -35,8 +35,8 @@ use Rattle.plant_text.proofs.Reading.{form-refused, form-taken, reading
 use Rattle.plant_text.proofs.Nesting.{stopped}
 
 -- the plant line
-not-plant : (r : Room) (f : Form) → (start-refusal f ≡ 0 → ⊥) → refusal r nothing f ≡ start-refusal f
-unfolding refusal
+not-plant : (r : Room) (f : Form) → (start-refusal f ≡ 0 → ⊥) → line-refusal r nothing f ≡ start-refusal f
+unfolding line-refusal
 not-plant r Plant h = absurd (h refl)
 not-plant r (Device n) h = refl
 not-plant r (Term n) h = refl
@@ -57,7 +57,7 @@ is-plant Unfinished e = absurd (omega arith)
 -- with no device open, a line among the devices that is no device form does what it does between terms
 between : (r : Room) (T : plants.Plant) (X : indexes.Index) (d k : ℕ) (s : List ℕ) (f : Form) → level-of f ≡ Missing →
     from-form r (devices-made T d []) f k s ≡ from-form r (terms-made (front d T) X 0 0 terms) f k s
-unfolding refusal next
+unfolding line-refusal next
 between r T X d k s Plant e = refl
 between r T X d k s (Device n) e = cc
 between r T X d k s (Term n) e = refl
@@ -68,8 +68,8 @@ between r T X d k s Unfinished e = refl
 
 -- after the plant is closed the text ends, or its next line is refused
 module _ (r : Room) (m : State) (c : is closed m ≡ true) (k : ℕ) (t : List ℕ) (b : ℕ) where
-  closed-refusal : (f : Form) → refusal r m f ≡ 25
-  unfolding refusal
+  closed-refusal : (f : Form) → line-refusal r m f ≡ 25
+  unfolding line-refusal
   closed-refusal f = rw c
 
   bytes-after : b < length t → from r m k (drop b t) ≡ no 25 k
@@ -81,16 +81,16 @@ module _ (r : Room) (m : State) (c : is closed m ≡ true) (k : ℕ) (t : List �
   nothing-after : length t ≤ b → from r m k (drop b t) ≡ made m
   nothing-after h = texts.reading-tail (line r) (end r) m k t b (omega arith) ∙ rw (drop-of-length-le t h, c)
 
-all-refused : {r : Room} {t : List ℕ} {T : plants.Plant} {X : indexes.Index} {x k : ℕ} → read r t ≡ no x k → ReadAll r t T X (outcome.Refused x k)
+all-refused : {r : Room} {t : List ℕ} {T : plants.Plant} {X : indexes.Index} {x k : ℕ} → read-plant r t ≡ no x k → ReadAll r t T X (outcome.Refused x k)
 all-refused e = record { means = e; devices = zero-le; terms = zero-le; postings = zero-le }
 
 pub all-20 : {r : Room} {t : List ℕ} {T : plants.Plant} {X : indexes.Index} → 65536 < length t → ReadAll r t T X (outcome.Refused 20 0)
-unfolding read
+unfolding read-plant
 all-20 {r} {t} h = all-refused (rw (lt-ltb 65536 (length t) h))
 
 module _ {t : List ℕ} {f : Form} {nxt x : ℕ} (r : Room) (h : length t ≤ 65536) (e : Lexed t 0 f nxt) (q : x ≡ start-refusal f) where
-  first : read r t ≡ from-form r nothing f 1 (drop nxt t)
-  unfolding read
+  first : read-plant r t ≡ from-form r nothing f 1 (drop nxt t)
+  unfolding read-plant
   first = rw (le-ltb 65536 (length t) h) (reading-form e r nothing 1 (omega arith) refl)
 
   pub all-start : {T : plants.Plant} {X : indexes.Index} → (x ≡ 0 → ⊥) → ReadAll r t T X (outcome.Refused x 1)
@@ -103,13 +103,13 @@ module _ {t : List ℕ} {f : Form} {nxt x : ℕ} (r : Room) (h : length t ≤ 65
     pub plant-stands : Stands t nxt 2 0
     plant-stands = let m = lexed-moves e (finished opens refl) in record { fits = h; within = e .within; lined = omega arith; counted = omega arith }
 
-    opened : (T : plants.Plant) → read r t ≡ from-device r t T nxt 2 0 []
-    unfolding refusal next
+    opened : (T : plants.Plant) → read-plant r t ≡ from-device r t T nxt 2 0 []
+    unfolding line-refusal next
     opened T = first ∙ rw opens (form-taken r nothing 1 (drop nxt t) Plant refl refl)
 
     module _ {T T₁ : plants.Plant} {y : Listed} (d : ListRead r t T nxt 2 0 0 0 T₁ y) where
       -- no device is open before the first
-      listed-reads : {b : List ℕ → Read State} → Same 0 0 (from-device r t T nxt 2 0) b → read r t ≡ b []
+      listed-reads : {b : List ℕ → Read State} → Same 0 0 (from-device r t T nxt 2 0) b → read-plant r t ≡ b []
       listed-reads p = opened T ∙ p .same [] (record { size = refl; outer = λ d. refl })
 
       pub all-devices : {T′ : plants.Plant} {X′ : indexes.Index} {w l : ℕ} → y ≡ listed.Refused w l → ReadAll r t T′ X′ (outcome.Refused w l)
@@ -123,7 +123,7 @@ module _ {t : List ℕ} {f : Form} {nxt x : ℕ} (r : Room) (h : length t ≤ 65
         terms-ready i = let s = stops in record { stands = s .stands; within = s .within; lasts = omega (arith, s .holds, s .fits .last); fits = i }
 
         module _ {X X₁ : indexes.Index} {z : Closing} (m : TermsRead r t (T₁ .last) c X f₁ a k X₁ z) where
-          terms-reads : {b : plants.Plant → Read State} → SameTerms (T₁ .last) c (at-term r t X f₁ a k 0 0) b → read r t ≡ b (front c T₁)
+          terms-reads : {b : plants.Plant → Read State} → SameTerms (T₁ .last) c (at-term r t X f₁ a k 0 0) b → read-plant r t ≡ b (front c T₁)
           terms-reads p = listed-reads (stops .reads) ∙ between r T₁ X c k (drop a t) f₁ (stops .no-device) ∙ p .same (front c T₁) refl
 
           pub all-terms : {T′ : plants.Plant} {X′ : indexes.Index} {w l : ℕ} → z ≡ closing.Refused w l → ReadAll r t T′ X′ (outcome.Refused w l)
@@ -166,13 +166,13 @@ filled-is l l₀ l′ {n} {m} q h e c = rw (c, q, length-take-le n l (omega arit
 -- the tables when they have been read and cleared
 module _ (L₀ R₀ W₀ A₀ S₀ Q₀ : List ℕ) {r : Room} {t L R W A S Q : List ℕ} {o : Outcome}
     (e : r ≡ room (plant L₀ R₀ W₀) (index A₀ S₀ Q₀)) (h : ReadAll r t (plant L R W) (index A S Q) o) where
-  pub answered : length L ≡ length L₀ → length A ≡ length A₀ → length Q ≡ length Q₀ → o ≡ answer (read (room (plant L₀ R₀ W₀) (index A₀ S₀ Q₀)) t)
+  pub answered : length L ≡ length L₀ → length A ≡ length A₀ → length Q ≡ length Q₀ → o ≡ outcome-of (read-plant (room (plant L₀ R₀ W₀) (index A₀ S₀ Q₀)) t)
   answered l a q =
       let f = room-fits (plant L₀ R₀ W₀) (index A₀ S₀ Q₀) e in
       let i = room-fits-index (plant L₀ R₀ W₀) (index A₀ S₀ Q₀) e in
       rw (← e, h .means) (go o (omega (arith, h .devices, f .last)) (omega (arith, h .terms, i .terms)) (omega (arith, h .postings, i .postings)))
     where
-      go : (o : Outcome) → devices-of o ≤ length L → terms-of o ≤ length A → postings-of o ≤ length Q → o ≡ answer (says (plant L R W) (index A S Q) o)
+      go : (o : Outcome) → devices-of o ≤ length L → terms-of o ≤ length A → postings-of o ≤ length Q → o ≡ outcome-of (says (plant L R W) (index A S Q) o)
       go (outcome.Refused x k) u v w = refl
       go (outcome.Made d n p) u v w = rw (length-take-le d L u, length-take-le n A v, length-take-le p Q w)
 

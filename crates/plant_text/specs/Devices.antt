@@ -10,7 +10,7 @@ use Rattle.index.specs.Index.{index}
 use Rattle.text.specs.Reading.{Read, no}
 use Rattle.text.specs.declared.Number.the-variants.{Missing}
 use Rattle.plant_text.specs.Form.{is-unfinished}
-use Rattle.plant_text.specs.PlantText.{State, devices, refusal, next, outermost}
+use Rattle.plant_text.specs.PlantText.{State, devices, line-refusal, next, outermost}
 use Rattle.plant_text.specs.Rest.{from, from-form, Stands, level-of}
 use Rattle.plant_text.specs.declared.Room.{Room}
 use Rattle.plant_text.specs.declared.lines.Form.{Form}
@@ -41,7 +41,7 @@ pub record Stack (stack : List ℕ) (depth top : ℕ) : Type 0 where
 
 -- device count + 1 of level n opens below the outermost device out, or is refused by the number x
 pub record Opens (r : Room) (T : plants.Plant) (count depth out n : ℕ) (T′ : plants.Plant) (x : ℕ) : Type 0 where
-  pub refusal-is : (stack : List ℕ) → length stack ≡ depth → refusal r (devices-made T count stack) (Device n) ≡ x
+  pub refusal-is : (stack : List ℕ) → length stack ≡ depth → line-refusal r (devices-made T count stack) (Device n) ≡ x
   pub opens : x ≡ 0 → (stack : List ℕ) → outermost stack (count + 1) ≡ out →
       next (devices-made T count stack) (Device n) ≡ devices-made T′ (count + 1) ((count + 1) ∷ stack)
   pub fits : Fits r T′

@@ -97,8 +97,8 @@ is-redundant m = numbered never never (λ d. shadowed (m .plant .last) (current 
 
 -- document 01's rows for a line of plant text, in its order: the first that applies, or 0. 25: "bytes after the closed plant"; 24: "bytes end,
 -- or a line is unfinished, before the plant closes"
-unfoldable pub refusal : Room → State → Form → ℕ
-refusal r m f =
+unfoldable pub line-refusal : Room → State → Form → ℕ
+line-refusal r m f =
     pick (is closed m) 25
     (pick (is-unfinished f) 24
     (pick (not (stands m f)) 21
@@ -177,14 +177,14 @@ next m form.Unfinished = m
 
 -- what a whole line does, and what the end of the bytes does after some of a line: the text may end where the plant is closed
 abbrev pub line : Room → State → List ℕ → Step State
-line r m l = unless (refusal r m (form l)) (next m (form l))
+line r m l = unless (line-refusal r m (form l)) (next m (form l))
 
 abbrev pub end : Room → State → List ℕ → Step State
-end r m tail = unless (pick (is closed m && empty tail) 0 (refusal r m form.Unfinished)) m
+end r m tail = unless (pick (is closed m && empty tail) 0 (line-refusal r m form.Unfinished)) m
 
 -- what a text comes to, with room for so many devices, terms and postings; 20: "over 65,536 bytes (line 0)"
-unfoldable pub read : Room → List ℕ → Read State
-read r text = cond (ltb 65536 (length text)) (no 20 0) (reading (line r) (end r) nothing 1 text)
+unfoldable pub read-plant : Room → List ℕ → Read State
+read-plant r text = cond (ltb 65536 (length text)) (no 20 0) (reading (line r) (end r) nothing 1 text)
 
 -- the room of lent tables: a device has an entry in each of three, a term in each of two
 abbrev pub places : ℕ → ℕ → ℕ → ℕ → ℕ → ℕ → Room
@@ -194,9 +194,9 @@ abbrev pub room : Plant → Index → Room
 room P I = places (length (P .last)) (length (P .root)) (length (P .level)) (length (I .terms)) (length (I .starts)) (length (I .postings))
 
 -- "Success gives the numbers of devices, marks and postings"; a refusal "gives the number and the line"
-abbrev pub answer : Read State → Outcome
-answer (made m) = outcome.Made (size (m .plant)) (count (m .index)) (length (m .index .postings))
-answer (no n k) = outcome.Refused n k
+abbrev pub outcome-of : Read State → Outcome
+outcome-of (made m) = outcome.Made (size (m .plant)) (count (m .index)) (length (m .index .postings))
+outcome-of (no n k) = outcome.Refused n k
 
 -- what is left in the tables: "entries beyond those are 0. Any plant-text refusal sets every entry of every lent table to 0"
 abbrev pub kept : Read State → State
@@ -210,10 +210,10 @@ filled n l = l ++ replicate (n - length l) 0
 -- the device tables P and the index's tables I after a text is read into them
 abbrev pub plant-after : List ℕ → Plant → Index → Plant
 plant-after text P I =
-    let m = kept (read (room P I) text) in
+    let m = kept (read-plant (room P I) text) in
     plant (filled (length (P .last)) (m .plant .last)) (filled (length (P .root)) (m .plant .root)) (filled (length (P .level)) (m .plant .level))
 
 abbrev pub index-after : List ℕ → Plant → Index → Index
 index-after text P I =
-    let m = kept (read (room P I) text) in
+    let m = kept (read-plant (room P I) text) in
     index (filled (length (I .terms)) (m .index .terms)) (filled (length (I .starts)) (m .index .starts)) (filled (length (I .postings)) (m .index .postings))

@@ -3,14 +3,14 @@ use Prim.Native.Nat.{ℕ, _+_, _<_, _≤_, min}
 use mathlib.Core.Path.{_≡_}
 use mathlib.Core.List.{List}
 use lib.Dec.{eqb}
-use lib.ListN.{length, drop}
+use lib.ListN.{length}
 use Rattle.laws.specs.Rows.{pick}
 use Rattle.text.specs.Lines.{line-at}
 use Rattle.text.specs.Reading.{Read, unless, and-then, reading}
 use Rattle.text.specs.declared.Number.{Number}
 use Rattle.text.specs.declared.Number.the-variants.{Value, Missing}
 use Rattle.plant_text.specs.Form.{form}
-use Rattle.plant_text.specs.PlantText.{State, refusal, next, line, end}
+use Rattle.plant_text.specs.PlantText.{State, line-refusal, next, line, end}
 use Rattle.plant_text.specs.declared.Room.{Room}
 use Rattle.plant_text.specs.declared.lines.Form.{Form}
 use Rattle.plant_text.specs.declared.lines.Form.the-variants.{Plant, Device, Term, Posting, Close, Other, Unfinished}
@@ -23,7 +23,7 @@ from r m k s = reading (line r) (end r) m k s
 
 -- what is read where line k is of a form and the text goes on as s after it
 abbrev pub from-form : Room → State → Form → ℕ → List ℕ → Read State
-from-form r m f k s = and-then (unless (refusal r m f) (next m f)) k (λ m′. from r m′ (k + 1) s)
+from-form r m f k s = and-then (unless (line-refusal r m f) (next m f)) k (λ m′. from r m′ (k + 1) s)
 
 -- a form whose numbers are known up to 65,535: one above stands for all above
 abbrev pub capped-form : Form → Form

@@ -13,7 +13,7 @@ use Rattle.index.specs.Index as indexes
 use Rattle.index.specs.Index.{index}
 use Rattle.text.specs.Reading.{Read, no}
 use Rattle.plant_text.specs.Form.{is-unfinished}
-use Rattle.plant_text.specs.PlantText.{Stage, State, terms, postings, closed, refusal, next}
+use Rattle.plant_text.specs.PlantText.{Stage, State, terms, postings, closed, line-refusal, next}
 use Rattle.plant_text.specs.Rest.{from, from-form, Stands}
 use Rattle.plant_text.specs.declared.Room.{Room}
 use Rattle.plant_text.specs.declared.lines.Form.{Form}
@@ -40,7 +40,7 @@ pub record Before (last : List ℕ) (count begin : ℕ) (m : State) : Type 0 whe
 
 -- a posting of device d is added, or refused by the number x
 pub record Adds (r : Room) (last posts : List ℕ) (count begin n d : ℕ) (s : Bool) (posts′ : List ℕ) (x : ℕ) : Type 0 where
-  pub refusal-is : (m : State) → Before last count begin m → refusal r (posts-made m posts n postings) (Posting d s) ≡ x
+  pub refusal-is : (m : State) → Before last count begin m → line-refusal r (posts-made m posts n postings) (Posting d s) ≡ x
   pub adds : x ≡ 0 → (m : State) → next (posts-made m posts n postings) (Posting d s) ≡ posts-made m posts′ (n + 1) postings
   pub fits : r .postings ≤ length posts′
   pub holds : x ≡ 0 → n + 1 ≤ r .postings
@@ -92,7 +92,7 @@ terms-made P X n p s = record { stage = s; opened = []; plant = P; index = part 
 
 -- term n + 1 of number v opens, with p postings before it, or is refused by the number x
 pub record OpensTerm (r : Room) (T S : List ℕ) (n p v : ℕ) (T′ S′ : List ℕ) (x : ℕ) : Type 0 where
-  pub refusal-is : (P : plants.Plant) (L : List ℕ) → refusal r (terms-made P (index T S L) n p terms) (Term v) ≡ x
+  pub refusal-is : (P : plants.Plant) (L : List ℕ) → line-refusal r (terms-made P (index T S L) n p terms) (Term v) ≡ x
   pub opens : x ≡ 0 → (P : plants.Plant) (L : List ℕ) → p ≤ length L →
       next (terms-made P (index T S L) n p terms) (Term v) ≡ terms-made P (index T′ S′ L) (n + 1) p postings
   pub terms : r .terms ≤ length T′

@@ -5,7 +5,7 @@ use mathlib.Core.List.{List}
 use Rattle.plant.specs.Plant as plants
 use Rattle.index.specs.Index as indexes
 use Rattle.text.specs.Reading.{Read, made, no}
-use Rattle.plant_text.specs.PlantText.{State, closed, read}
+use Rattle.plant_text.specs.PlantText.{State, closed, read-plant}
 use Rattle.plant_text.specs.Devices.{front}
 use Rattle.plant_text.specs.Terms.{terms-made}
 use Rattle.plant_text.specs.declared.Room.{Room}
@@ -32,7 +32,7 @@ says T X (outcome.Made d n p) = made (terms-made (front d T) X n p closed)
 
 -- the tables' front entries are what the text made
 pub record ReadAll (r : Room) (t : List ℕ) (T : plants.Plant) (X : indexes.Index) (o : Outcome) : Type 0 where
-  pub means : read r t ≡ says T X o
+  pub means : read-plant r t ≡ says T X o
   pub devices : devices-of o ≤ r .devices
   pub terms : terms-of o ≤ r .terms
   pub postings : postings-of o ≤ r .postings

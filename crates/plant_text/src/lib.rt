@@ -5,7 +5,7 @@ ghost use Prim.Native.Nat.{_-_, _≤_, min};
 ghost use lib.ListN.{length, take, replicate};
 ghost use Rattle.plant.specs.Plant.{plant};
 ghost use Rattle.index.specs.Index.{index};
-ghost use Rattle.plant_text.specs.PlantText.{places, room, read, answer, «plant-after», «index-after»};
+ghost use Rattle.plant_text.specs.PlantText.{places, room, read-plant, outcome-of, «plant-after», «index-after»};
 ghost use Rattle.plant_text.specs.Devices.{Fits};
 ghost use Rattle.plant_text.specs.Terms.{FitsIndex};
 ghost use Rattle.plant_text.specs.Whole.{«devices-of», «terms-of», «postings-of», ReadAll};
@@ -43,7 +43,7 @@ pub fn read(
     starts: &mut [u32],
     postings: &mut [u32],
 ) -> Outcome
-    ensures outcome { λ r. ⌜ r ≡ answer (read (room (plant (now (last .entry)) (now (root .entry)) (now (level .entry))) (index (now (terms .entry)) (now (starts .entry)) (now (postings .entry)))) (now (text .entry))) ⌝ }
+    ensures outcome { λ r. ⌜ r ≡ outcome-of (read-plant (room (plant (now (last .entry)) (now (root .entry)) (now (level .entry))) (index (now (terms .entry)) (now (starts .entry)) (now (postings .entry)))) (now (text .entry))) ⌝ }
     ensures plant { λ _. ⌜ plant (now (last .exit)) (now (root .exit)) (now (level .exit)) ≡ «plant-after» (now (text .entry)) (plant (now (last .entry)) (now (root .entry)) (now (level .entry))) (index (now (terms .entry)) (now (starts .entry)) (now (postings .entry))) ⌝ }
     ensures index { λ _. ⌜ index (now (terms .exit)) (now (starts .exit)) (now (postings .exit)) ≡ «index-after» (now (text .entry)) (plant (now (last .entry)) (now (root .entry)) (now (level .entry))) (index (now (terms .entry)) (now (starts .entry)) (now (postings .entry))) ⌝ }
 {

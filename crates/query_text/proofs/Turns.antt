@@ -14,7 +14,7 @@ use Rattle.text.specs.Lines.{line-at}
 use Rattle.text.specs.Reading.{refused, made, no, unless, and-then, reading}
 use Rattle.text.proofs.Reading.{stops, reading-line, reading-tail}
 use Rattle.query_text.specs.Form.{form, capped-form}
-use Rattle.query_text.specs.QueryText.{begun, closed, line-refusal, with-line, step, line, end, told, read, form-at}
+use Rattle.query_text.specs.QueryText.{begun, closed, line-refusal, with-line, step, line, end, told, read-query, form-at}
 use Rattle.query_text.specs.declared.Form.{Form}
 use Rattle.query_text.specs.declared.Form.the-variants.{Unfinished}
 use Rattle.query_text.specs.declared.Draft.{Draft}
@@ -35,14 +35,14 @@ pub record Reads (t : List ℕ) (d : Draft) (at k : ℕ) : Type 0 where
   pub short : length t ≤ 4096
   pub within : at ≤ length t
   pub counted : k ≤ at + 1
-  pub known : read t ≡ told (reading line end d k (drop at t))
+  pub known : read-query t ≡ told (reading line end d k (drop at t))
 
-pub too-long : (t : List ℕ) {r : QueryRead} → 4096 < length t → r ≡ told (no 30 0) → r ≡ read t
-unfolding read
+pub too-long : (t : List ℕ) {r : QueryRead} → 4096 < length t → r ≡ told (no 30 0) → r ≡ read-query t
+unfolding read-query
 too-long t h e = rw (lt-ltb 4096 (length t) h) e
 
 pub reads-begun : (t : List ℕ) {d : Draft} → length t ≤ 4096 → d ≡ begun → Reads t d 0 1
-unfolding read
+unfolding read-query
 reads-begun t h e =
     record { short = h; within = omega arith; counted = omega arith; known = rw (le-ltb 4096 (length t) h, e) }
 
@@ -65,7 +65,7 @@ unfinished-row d h = go (closed d) h
 
 module _ {t : List ℕ} {d : Draft} {at k : ℕ} (a : Reads t d at k) where
   module _ {b : Bool} (e : b ≡ (closed d && eqb (length t - at) 0)) where
-    pub reads-finished : {r : QueryRead} → b ≡ true → r ≡ told (made d) → r ≡ read t
+    pub reads-finished : {r : QueryRead} → b ≡ true → r ≡ told (made d) → r ≡ read-query t
     reads-finished {r} p q =
         let f : (closed d && eqb (length t - at) 0) ≡ true = sym e ∙ p in
         let z = eqb-true (length t - at) 0 (and-yes (closed d) (eqb (length t - at) 0) .0 f .1) in
@@ -81,7 +81,7 @@ module _ {t : List ℕ} {d : Draft} {at k : ℕ} (a : Reads t d at k) where
         reading-tail line end d k t at h ∙ rw (length-drop at t, sym e ∙ p, g, unfinished-refused d))
 
     module _ {f : Form} (p : b ≡ false) (q : f ≡ form-at t at) where
-      pub reads-refused : {x : ℕ} {r : QueryRead} → x ≡ line-refusal d f → (x ≡ 0 → ⊥) → r ≡ told (no x k) → r ≡ read t
+      pub reads-refused : {x : ℕ} {r : QueryRead} → x ≡ line-refusal d f → (x ≡ 0 → ⊥) → r ≡ told (no x k) → r ≡ read-query t
       reads-refused {x} g n s =
           s ∙ sym (a .known ∙ rw (reading-step p q, ← g, stops (λ d′. reading line end d′ (k + 1) (drop (at + length (line-at t at) + 1) t)) x k (with-line d f) n))
 

@@ -168,8 +168,8 @@ told (made d) = record { refusal = 0; line = 0; query = d .query }
 told (no n k) = record { refusal = n; line = k; query = empty }
 
 -- 30: "over 4,096 bytes (line 0)"
-unfoldable pub read : List ℕ → QueryRead
-read t = told (cond (ltb 4096 (length t)) (no 30 0) (reading line end begun 1 t))
+unfoldable pub read-query : List ℕ → QueryRead
+read-query t = told (cond (ltb 4096 (length t)) (no 30 0) (reading line end begun 1 t))
 
 -- the form of the line at an index, its numbers up to the limit
 abbrev pub form-at : List ℕ → ℕ → Form

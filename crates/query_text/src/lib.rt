@@ -11,7 +11,7 @@ ghost use lib.ListN.{length};
 ghost use Rattle.text.specs.Lines.{«line-at»};
 ghost use Rattle.text.specs.Reading.{made, no};
 ghost use Rattle.query_text.specs.Form.{form, «capped-form»};
-ghost use Rattle.query_text.specs.QueryText.{begun, closed, rank, «next-stage», «out-of-order», unfinished, over, ninth, «line-refusal», «with-form», «with-line», «form-at», told, read};
+ghost use Rattle.query_text.specs.QueryText.{begun, closed, rank, «next-stage», «out-of-order», unfinished, over, ninth, «line-refusal», «with-form», «with-line», «form-at», told, read-query};
 
 // The largest number of a line. A larger one is read as one above it.
 const LIMIT: u32 = 4294967295;
@@ -55,7 +55,7 @@ struct Line {
 
 // The query that a text writes, or why and at which line it is refused.
 pub fn read(text: &[u8]) -> QueryRead
-    ensures { λ r. ⌜ r ≡ read (now (text .entry)) ⌝ }
+    ensures { λ r. ⌜ r ≡ read-query (now (text .entry)) ⌝ }
 {
     if LONGEST_TEXT < text.len() {
         return refused(30, 0);

@@ -49,12 +49,12 @@ query-read P I n line q h = rw h
 
 -- the plant text is refused, or read
 module _ (text query : List ℕ) where
-  pub plant-refused : (n line : ℕ) → plant-texts.read program-room text ≡ no n line → numbered₂ word-plant n line ≡ respond text query
+  pub plant-refused : (n line : ℕ) → plant-texts.read-plant program-room text ≡ no n line → numbered₂ word-plant n line ≡ respond text query
   unfolding respond
   plant-refused n line e = rw e
 
-  pub plant-read : (P : Plant) (I : Index) (m : State) → plant-texts.read program-room text ≡ made m → P ≡ m .plant → I ≡ m .index →
-      of-query-text P I (query-texts.read query) ≡ respond text query
+  pub plant-read : (P : Plant) (I : Index) (m : State) → plant-texts.read-plant program-room text ≡ made m → P ≡ m .plant → I ≡ m .index →
+      of-query-text P I (query-texts.read-query query) ≡ respond text query
   unfolding respond
   plant-read P I m e p i = rw (e, p, i)
 

@@ -12,7 +12,7 @@ use Rattle.index.proofs.Accepted as indexes
 use Rattle.text.specs.Reading.{Read, made, no}
 use Rattle.plant_text.specs.declared.Room.{Room}
 use Rattle.plant_text.specs.declared.Outcome.the-variants as outcome
-use Rattle.plant_text.specs.PlantText.{State, read, answer, kept, filled}
+use Rattle.plant_text.specs.PlantText.{State, read-plant, outcome-of, kept, filled}
 use Rattle.plant_text.proofs.Accepted.{passes}
 
 -- what the reader answers for a text that it accepts, or refuses
@@ -23,11 +23,11 @@ pub record IsMade (X : Read State) (d t p : ℕ) : Type 0 where
   pub terms : t ≡ count (state .index)
   pub postings : p ≡ length (state .index .postings)
 
-pub is-made : (X : Read State) (d t p : ℕ) → outcome.Made d t p ≡ answer X → IsMade X d t p
+pub is-made : (X : Read State) (d t p : ℕ) → outcome.Made d t p ≡ outcome-of X → IsMade X d t p
 is-made (made m) d t p e = record { state = m; is = refl; devices = cc; terms = cc; postings = cc }
 is-made (no n k) d t p e = let z : _≡_ {A = ℕ} 0 1 = cc in absurd (omega arith)
 
-pub is-refused : (X : Read State) (n k : ℕ) → outcome.Refused n k ≡ answer X → X ≡ no n k
+pub is-refused : (X : Read State) (n k : ℕ) → outcome.Refused n k ≡ outcome-of X → X ≡ no n k
 is-refused (made m) n k e = let z : _≡_ {A = ℕ} 0 1 = cc in absurd (omega arith)
 is-refused (no x y) n k e = cc
 
@@ -41,7 +41,7 @@ fits l table n k e h = rw (e, length-append) (omega (arith, h))
 -- what a read leaves in tables of zeros, and the cut tables
 pub record Tables (r : Room) (text : List ℕ) (d t p : ℕ) (last root level terms starts postings : List ℕ) : Type 0 where
   pub state : State
-  pub means : read r text ≡ made state
+  pub means : read-plant r text ≡ made state
   pub plant-is : plant (take d last) (take d root) (take d level) ≡ state .plant
   pub index-is : index (take t terms) (take t starts) (take p postings) ≡ state .index
   pub in-last : d ≤ length last
@@ -52,12 +52,12 @@ pub record Tables (r : Room) (text : List ℕ) (d t p : ℕ) (last root level te
   pub in-postings : p ≤ length postings
 
 pub tables : (r : Room) (text : List ℕ) (d t p a b c e f g : ℕ) (last root level terms starts postings : List ℕ) →
-    outcome.Made d t p ≡ answer (read r text) →
-    plant last root level ≡ (let m = kept (read r text) in plant (filled a (m .plant .last)) (filled b (m .plant .root)) (filled c (m .plant .level))) →
-    index terms starts postings ≡ (let m = kept (read r text) in index (filled e (m .index .terms)) (filled f (m .index .starts)) (filled g (m .index .postings))) →
+    outcome.Made d t p ≡ outcome-of (read-plant r text) →
+    plant last root level ≡ (let m = kept (read-plant r text) in plant (filled a (m .plant .last)) (filled b (m .plant .root)) (filled c (m .plant .level))) →
+    index terms starts postings ≡ (let m = kept (read-plant r text) in index (filled e (m .index .terms)) (filled f (m .index .starts)) (filled g (m .index .postings))) →
     Tables r text d t p last root level terms starts postings
 tables r text d t p a b c e f g last root level terms starts postings o devices lists =
-    let m = is-made (read r text) d t p o in
+    let m = is-made (read-plant r text) d t p o in
     let s = m .state in
     let P = s .plant in
     let I = s .index in

@@ -7,7 +7,7 @@ use Rattle.plant.specs.Plant.{Plant}
 use Rattle.index.specs.Index.{Index}
 use Rattle.steps.specs.Steps.{End}
 use Rattle.query.specs.declared.Query.{Query}
-use Rattle.search.specs.Answer.{refusal, ended}
+use Rattle.search.specs.Answer.{search-refusal, ended}
 use Rattle.text.specs.Reading.{Read, made, no}
 use Rattle.plant_text.specs.PlantText as plant-texts
 use Rattle.plant_text.specs.PlantText.{State}
@@ -26,7 +26,7 @@ of-run zero e = answer-text (e .listed) (e .position) (e .counts .moves)
 of-run (suc n) e = numbered word-query (suc n)
 
 abbrev pub of-search : Plant → Index → Query → List ℕ
-of-search P I q = of-run (refusal P I q 1024) (ended P I q (q .budget))
+of-search P I q = of-run (search-refusal P I q 1024) (ended P I q (q .budget))
 
 -- `(refused ask 31 2)`, or what the search of the query comes to
 abbrev pub of-query : Plant → Index → ℕ → ℕ → Query → List ℕ
@@ -42,7 +42,7 @@ of-plant-text (no n line) q = numbered₂ word-plant n line
 of-plant-text (made m) q = of-query-text (m .plant) (m .index) q
 
 unfoldable pub respond : List ℕ → List ℕ → List ℕ
-respond plant query = of-plant-text (plant-texts.read program-room plant) (query-texts.read query)
+respond plant query = of-plant-text (plant-texts.read-plant program-room plant) (query-texts.read-query query)
 
 -- the buffer holds the text at its front and keeps its other bytes; the count is the text's length, which lies within the buffer
 pub record Responds (plant query out out′ : List ℕ) (count : ℕ) : Type 0 where

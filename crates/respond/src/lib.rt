@@ -58,7 +58,7 @@ fn respond_query(
     query: &[u8],
     out: &mut [u8; 16384],
 ) -> usize
-    ensures { λ r. ⌜ Puts (now (out .entry)) 0 («of-query-text» (plant (now (last .entry)) (now (root .entry)) (now (level .entry))) (index (now (terms .entry)) (now (starts .entry)) (now (postings .entry))) («query-texts».read (now (query .entry)))) (now (out .exit)) r ⌝ }
+    ensures { λ r. ⌜ Puts (now (out .entry)) 0 («of-query-text» (plant (now (last .entry)) (now (root .entry)) (now (level .entry))) (index (now (terms .entry)) (now (starts .entry)) (now (postings .entry))) («query-texts».read-query (now (query .entry)))) (now (out .exit)) r ⌝ }
     ensures { λ _. ⌜ length (now (out .entry)) ≡ 16384 ⌝ }
 {
     let asked = query_text::read(query);

@@ -27,7 +27,7 @@ use Rattle.query.specs.Query.{required, forbidden, in-range, query-refusal}
 use Rattle.query.specs.declared.Query.{Query}
 use Rattle.query.proofs.Accepted.{Accepted, accepted}
 use Rattle.search.specs.inner.Cursors.{Sound, Lists, Tables, begin, Ends}
-use Rattle.search.specs.Answer.{refusal, criteria, ended, told, written, answer, answer-list}
+use Rattle.search.specs.Answer.{search-refusal, criteria, ended, answer-of, written, answer, answer-list}
 use Rattle.search.specs.Promises.{Promised}
 use Rattle.search.specs.declared.Answer.{Answer}
 use Rattle.search.specs.declared.run.Listing.{Listing}
@@ -51,10 +51,10 @@ pub record Admitted (P : Plant) (I : Index) (q : Query) (room : ℕ) : Type 0 wh
   pub list : (t : ℕ) → SoundList (P .last) (list-of I t)
   pub query : Accepted (size P) room q
 
-pub admitted : (P : Plant) (I : Index) (q : Query) (n : ℕ) → refusal P I q n ≡ 0 → Admitted P I q n
-unfolding refusal
+pub admitted : (P : Plant) (I : Index) (q : Query) (n : ℕ) → search-refusal P I q n ≡ 0 → Admitted P I q n
+unfolding search-refusal
 admitted P I q n h =
-    let a = otherwise-none (indexes.refusal P I) (query-refusal (size P) n q) h in
+    let a = otherwise-none (indexes.tables-refusal P I) (query-refusal (size P) n q) h in
     let t = index-laws.accepted P I (a .0) in
     let s = plants.accepted P (t .tables) in
     record {
@@ -101,18 +101,18 @@ run-ended P I q e x = rw e at x
 
 -- ---- the refusal
 
-module _ (P : Plant) (I : Index) (q : Query) (room : ℕ) {t : ℕ} (e : t ≡ indexes.refusal P I) where
-  pub refused-before : (t ≡ 0 → ⊥) → t ≡ refusal P I q room
-  unfolding refusal
-  refused-before z = e ∙ sym (otherwise-first (indexes.refusal P I) _ (λ o. z (e ∙ o)))
+module _ (P : Plant) (I : Index) (q : Query) (room : ℕ) {t : ℕ} (e : t ≡ indexes.tables-refusal P I) where
+  pub refused-before : (t ≡ 0 → ⊥) → t ≡ search-refusal P I q room
+  unfolding search-refusal
+  refused-before z = e ∙ sym (otherwise-first (indexes.tables-refusal P I) _ (λ o. z (e ∙ o)))
 
-  pub refused-here : {r : ℕ} → t ≡ 0 → r ≡ query-refusal (size P) room q → r ≡ refusal P I q room
-  unfolding refusal
-  refused-here z f = f ∙ sym (otherwise-next (indexes.refusal P I) _ (sym e ∙ z))
+  pub refused-here : {r : ℕ} → t ≡ 0 → r ≡ query-refusal (size P) room q → r ≡ search-refusal P I q room
+  unfolding search-refusal
+  refused-here z f = f ∙ sym (otherwise-next (indexes.tables-refusal P I) _ (sym e ∙ z))
 
 -- ---- the answer
 
-told-refused : (n : ℕ) (e : End) → (n ≡ 0 → ⊥) → record { refusal = n; count = 0; position = 0; moves = 0 } ≡ told n e
+told-refused : (n : ℕ) (e : End) → (n ≡ 0 → ⊥) → record { refusal = n; count = 0; position = 0; moves = 0 } ≡ answer-of n e
 told-refused zero e h = absurd (h refl)
 told-refused (suc n) e h = refl
 
@@ -121,7 +121,7 @@ written-refused zero e out h = absurd (h refl)
 written-refused (suc n) e out h = refl
 
 -- the theorem: all that is promised of an accepted query holds of how its steps end
-pub promised : (P : Plant) (I : Index) (q : Query) (room : ℕ) → refusal P I q room ≡ 0 →
+pub promised : (P : Plant) (I : Index) (q : Query) (room : ℕ) → search-refusal P I q room ≡ 0 →
     Promised P I q (ended P I q (q .budget) .listed) (ended P I q (q .budget) .position) (ended P I q (q .budget) .counts .moves)
 unfolding ended
 promised P I q room h =
@@ -137,17 +137,17 @@ abbrev pub Searched : Plant → Index → Query → List ℕ → List ℕ → An
 Searched P I q out out′ r =
     (r ≡ answer P I q (length out)) × ((out′ ≡ answer-list P I q out) × (r .refusal ≡ 0 → Promised P I q (take (r .count) out′) (r .position) (r .moves)))
 
-module _ (P : Plant) (I : Index) (q : Query) {out : List ℕ} {n : ℕ} (e : n ≡ refusal P I q (length out)) where
+module _ (P : Plant) (I : Index) (q : Query) {out : List ℕ} {n : ℕ} (e : n ≡ search-refusal P I q (length out)) where
   pub searched-refused : (n ≡ 0 → ⊥) → Searched P I q out out (record { refusal = n; count = 0; position = 0; moves = 0 })
   searched-refused z = (
-    rw e (told-refused (refusal P I q (length out)) _ (λ o. z (e ∙ o))),
-    (written-refused (refusal P I q (length out)) _ out (λ o. z (e ∙ o)), λ o. absurd (z o)),
+    rw e (told-refused (search-refusal P I q (length out)) _ (λ o. z (e ∙ o))),
+    (written-refused (search-refusal P I q (length out)) _ out (λ o. z (e ∙ o)), λ o. absurd (z o)),
   )
 
   pub searched : {out′ : List ℕ} {r : Listing} → n ≡ 0 → Ends (ended P I q (q .budget)) out out′ r
       → Searched P I q out out′ (record { refusal = 0; count = r .count; position = r .position; moves = r .moves })
   searched {out′} {r} z x =
-      let o : refusal P I q (length out) ≡ 0 = sym e ∙ z in
+      let o : search-refusal P I q (length out) ≡ 0 = sym e ∙ z in
       let listed = ended P I q (q .budget) .listed in
       let t : take (length listed) out′ ≡ listed = rw (x .written) (take-at listed _ (length listed) refl) in
       (rw (o, x .count, x .position, x .moves), (rw o (x .written), λ _. rw (x .count, x .position, x .moves, t) (promised P I q (length out) o)))

@@ -6,7 +6,7 @@ use mathlib.Core.List.{List}
 use mathlib.Core.Path.{_≡_, refl}
 use lib.ListN.{length, getD, drop, drop-of-length-le}
 use lib.Seq.{drop-cons}
-use Rattle.laws.specs.Tables.{IsEntry}
+use Rattle.laws.specs.inner.Entries.{IsEntry}
 use Rattle.laws.proofs.Cases.{split-cond}
 use Rattle.laws.proofs.Tests.{tests, flags}
 use Rattle.index.specs.Postings.{device, shared, reach}

@@ -15,7 +15,7 @@ use Rattle.steps.specs.Steps.{round, run}
 use Rattle.query.specs.Query.{empty}
 use Rattle.query.specs.declared.Levels.{Levels}
 use Rattle.query.specs.declared.Query.{Query}
-use Rattle.search.specs.Answer.{refusal, criteria, ended, answer, answer-list}
+use Rattle.search.specs.Answer.{search-refusal, criteria, ended, answer, answer-list}
 
 -- "P has N = 6, last 6, 3, 3, 6, 5, 6, all roots 1, postings 5, 10, 9."
 abbrev pub P : Plant
@@ -57,7 +57,7 @@ pub rows :
     × Row (query [] (8 ∷ []) Levels.Any most) (1 ∷ 2 ∷ 3 ∷ 4 ∷ 5 ∷ 6 ∷ []) 7 0
     × Row (query (7 ∷ []) (7 ∷ []) Levels.Any most) [] 7 3
     × Row (query [] [] (Levels.Range 0 254) most) (1 ∷ 2 ∷ 4 ∷ 5 ∷ 6 ∷ []) 7 0
-unfolding plants.refusal indexes.refusal refusal ended run round bring before any lowest matching every member unshared count-up
+unfolding plants.plant-refusal indexes.tables-refusal search-refusal ended run round bring before any lowest matching every member unshared count-up
 rows = (
   record { answers = refl; lists = refl; exact = refl },
   record { answers = refl; lists = refl; exact = refl },

@@ -14,8 +14,8 @@ use Rattle.query.specs.declared.Query.{Query}
 use Rattle.search.specs.declared.Answer.{Answer}
 
 -- "Tables, store and ask are checked in that order by one call, the lowest number that applies winning"
-unfoldable pub refusal : Plant → Index → Query → ℕ → ℕ
-refusal P I q room = otherwise (indexes.refusal P I) (query-refusal (size P) room q)
+unfoldable pub search-refusal : Plant → Index → Query → ℕ → ℕ
+search-refusal P I q room = otherwise (indexes.tables-refusal P I) (query-refusal (size P) room q)
 
 -- what a query asks for, over a whole plant
 abbrev pub criteria : Plant → Query → Criteria
@@ -32,12 +32,12 @@ unfoldable pub ended : Plant → Index → Query → ℕ → End
 ended P I q budget = steps (P .last) (P .root) (list-of I) (criteria P q) budget
 
 -- the four numbers: "it gives the number and zeros", or "0, the number of devices listed, the place and the moves"
-abbrev pub told : ℕ → End → Answer
-told zero e = record { refusal = 0; count = length (e .listed); position = e .position; moves = e .counts .moves }
-told (suc n) e = record { refusal = suc n; count = 0; position = 0; moves = 0 }
+abbrev pub answer-of : ℕ → End → Answer
+answer-of zero e = record { refusal = 0; count = length (e .listed); position = e .position; moves = e .counts .moves }
+answer-of (suc n) e = record { refusal = suc n; count = 0; position = 0; moves = 0 }
 
 abbrev pub answer : Plant → Index → Query → ℕ → Answer
-answer P I q room = told (refusal P I q room) (ended P I q (q .budget))
+answer P I q room = answer-of (search-refusal P I q room) (ended P I q (q .budget))
 
 -- "The answer list holds the devices at its front; its other entries keep their contents." A refusal keeps all.
 abbrev pub written : ℕ → End → List ℕ → List ℕ
@@ -45,4 +45,4 @@ written zero e out = e .listed ++ drop (length (e .listed)) out
 written (suc n) e out = out
 
 abbrev pub answer-list : Plant → Index → Query → List ℕ → List ℕ
-answer-list P I q out = written (refusal P I q (length out)) (ended P I q (q .budget)) out
+answer-list P I q out = written (search-refusal P I q (length out)) (ended P I q (q .budget)) out

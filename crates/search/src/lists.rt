@@ -8,7 +8,7 @@ ghost use Rattle.laws.specs.Search.{any};
 ghost use Rattle.plant.specs.Plant.{plant};
 ghost use Rattle.index.specs.Index.{index, count, misplaced-term, list-of};
 ghost use Rattle.search.specs.inner.Cursors.{Ends};
-ghost use Rattle.search.specs.Answer.{refusal, ended};
+ghost use Rattle.search.specs.Answer.{search-refusal, ended};
 use crate::run::Listing;
 use crate::run::run;
 use index::list_of;
@@ -48,7 +48,7 @@ pub fn answered(
     query: Query,
     out: &mut [u16],
 ) -> Listing
-    requires { ⌜ refusal (plant (now last) (now root) (now level)) (index (now terms) (now starts) (now postings)) query (length (now out)) ≡ 0 ⌝ }
+    requires { ⌜ search-refusal (plant (now last) (now root) (now level)) (index (now terms) (now starts) (now postings)) query (length (now out)) ≡ 0 ⌝ }
     ensures { λ r. ⌜ Ends (ended (plant (now (last .entry)) (now (root .entry)) (now (level .entry))) (index (now (terms .entry)) (now (starts .entry)) (now (postings .entry))) query (query .budget)) (now (out .entry)) (now (out .exit)) r ⌝ }
 {
     let none = &postings[0..0];

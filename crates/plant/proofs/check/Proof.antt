@@ -3,14 +3,14 @@ use mathlib.Core.Path.{_≡_, sym, _∙_}
 use mathlib.Core.Bool.{true, false}
 use denote.Ref.{now}
 use borrow.Author.Needs.{needs}
-use Rattle.plant.specs.Plant.{Plant, uneven, refusal}
+use Rattle.plant.specs.Plant.{Plant, uneven, plant-refusal}
 use Rattle.laws.proofs.Tests.{tests, flags}
 use Rattle.laws.proofs.Cases.{cases}
 use Rattle.plant.proofs.check.Statement.{statement}
 use Rattle.plant.proofs.check.Tie as tie
 
-refused : (P : Plant) → uneven P ≡ true → 1 ≡ refusal P
-unfolding refusal
+refused : (P : Plant) → uneven P ≡ true → 1 ≡ plant-refusal P
+unfolding plant-refusal
 refused P p = rw p
 
 returns : tie.Need-returns
@@ -28,14 +28,14 @@ even : (c : tie.Else3) → uneven (tables c) ≡ false
 even c = simp tests (omega flags)
 
 returns-2 : tie.Need-returns-2
-unfolding refusal
+unfolding plant-refusal
 returns-2 c = rw (even (c .before .before), sym (c .before .any-out-of-range .ensures) ∙ c .if4 .taken)
 
 any-overlap-requires : tie.Need-any-overlap-requires
 any-overlap-requires c κs = sym (c .before .any-out-of-range .ensures) ∙ c .if4 .left
 
 returns-3 : tie.Need-returns-3
-unfolding refusal
+unfolding plant-refusal
 returns-3 c =
     let d = c .before .before in
     rw (even (d .before .before), any-overlap-requires d (c .before .any-overlap .lifetimes), sym (c .before .any-overlap .ensures) ∙ c .if5 .taken)
@@ -45,14 +45,14 @@ any-wrong-root-requires c κs =
     (omega flags, (any-overlap-requires (c .before .before) (c .before .any-overlap .lifetimes), sym (c .before .any-overlap .ensures) ∙ c .if5 .left))
 
 returns-4 : tie.Need-returns-4
-unfolding refusal
+unfolding plant-refusal
 returns-4 c =
     let d = c .before .before in
     let r = any-wrong-root-requires d (c .before .any-wrong-root .lifetimes) in
     rw (even (d .before .before .before .before), r .1 .0, r .1 .1, sym (c .before .any-wrong-root .ensures) ∙ c .if6 .taken)
 
 returns-5 : tie.Need-returns-5
-unfolding refusal
+unfolding plant-refusal
 returns-5 c =
     let d = c .before .before in
     let r = any-wrong-root-requires d (c .before .any-wrong-root .lifetimes) in

@@ -3,11 +3,6 @@ use native.Mathlib.Omega.{arith}
 use borrow.Author.Needs.{needs}
 use Rattle.plant_text_test.proofs.places.Statement.{statement}
 use Rattle.plant_text_test.proofs.places.Tie as tie
-use Rattle.plant_text_test.proofs.places.Reads as reads
-use Rattle.plant_text_test.proofs.places.Lts as lts
-use Rattle.plant_text.proofs.read.Reads as read-reads
-use Rattle.plant_text_test.proofs.least.Reads as least-reads
-use Rattle.plant_text_test.proofs.tell.Reads as tell-reads
 
 least-requires : tie.Need-least-requires
 least-requires c κs = search needs

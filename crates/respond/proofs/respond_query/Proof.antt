@@ -6,7 +6,6 @@ use native.Mathlib.Omega.{arith}
 use denote.Ref.{now}
 use Rattle.plant.specs.Plant.{Plant, plant}
 use Rattle.index.specs.Index.{Index, index}
-use Rattle.search.specs.Answer.{refusal}
 use Rattle.respond.specs.Lines.{word-ask}
 use Rattle.respond.proofs.Writing.{puts-as}
 use Rattle.respond.proofs.Parts.{numbered₂-room, query-refused, query-read}

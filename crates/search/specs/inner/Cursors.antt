@@ -6,7 +6,8 @@ use mathlib.Core.List.{List, [], _∷_, _++_}
 use lib.Dec.{ltb}
 use lib.ListN.{length, getD, drop, replicate}
 use lib.Seq.{sets}
-use Rattle.laws.specs.Tables.{entry, IsEntry}
+use Rattle.laws.specs.Tables.{entry}
+use Rattle.laws.specs.inner.Entries.{IsEntry}
 use Rattle.index.specs.Postings.{device}
 use Rattle.steps.specs.Moves as steps
 use Rattle.steps.specs.Moves.{behind}

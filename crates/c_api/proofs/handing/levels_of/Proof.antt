@@ -1,12 +1,9 @@
-use borrow.Author.Needs.{needs}
 use Prim.Native.Nat.{ℕ, zero, suc}
 use mathlib.Core.Path.{_≡_, refl}
 use Rattle.query.specs.declared.Levels.{Levels}
 use Rattle.c_api.specs.Handing.{levels-of}
 use Rattle.c_api.proofs.handing.levels_of.Statement.{statement}
 use Rattle.c_api.proofs.handing.levels_of.Tie as tie
-use Rattle.c_api.proofs.handing.levels_of.Reads as reads
-use Rattle.c_api.proofs.handing.levels_of.Lts as lts
 
 ranged-levels : (n : ℕ) {low high : ℕ} → (n ≡ 0 → ⊥) → Levels.Range low high ≡ levels-of n low high
 ranged-levels zero some = absurd (some refl)

@@ -4,9 +4,6 @@ use native.Mathlib.Omega.{arith}
 use Rattle.c_api.proofs.Places.{Copied, none-copied, one-more, whole}
 use Rattle.c_api.proofs.handing.places.Statement.{statement}
 use Rattle.c_api.proofs.handing.places.Tie as tie
-use Rattle.c_api.proofs.handing.places.Reads as reads
-use Rattle.c_api.proofs.handing.places.Lts as lts
-use Rattle.c_api.proofs.handing.least.Reads as least-reads
 
 abbrev Inv-loop : tie.InvT-loop
 Inv-loop terms out₀ count i₀ out i = (i ≤ count) × Copied terms i out

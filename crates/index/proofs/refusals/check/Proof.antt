@@ -9,7 +9,7 @@ use Rattle.laws.specs.Rows.{pick}
 use Rattle.laws.specs.Search.{any}
 use Rattle.plant.specs.Plant as plants
 use Rattle.plant.specs.Plant.{Plant, plant}
-use Rattle.index.specs.Index.{Index, index, count, unfit, misplaced-term, wrong-start, stray, misplaced-in, redundant-in, index-refusal, refusal}
+use Rattle.index.specs.Index.{Index, index, count, unfit, misplaced-term, wrong-start, stray, misplaced-in, redundant-in, index-refusal, tables-refusal}
 use Rattle.laws.proofs.Tests.{tests, flags}
 use Rattle.laws.proofs.Cases.{cases}
 use Rattle.laws.proofs.Rows.{otherwise-first, otherwise-next}
@@ -17,14 +17,14 @@ use Rattle.index.proofs.refusals.check.Statement.{statement}
 use Rattle.index.proofs.refusals.check.Tie as tie
 
 -- the tables refuse, or the index's own rows tell
-module _ (P : Plant) (I : Index) (r : ℕ) (e : r ≡ plants.refusal P) where
-  refused : (r ≡ 0 → ⊥) → r ≡ refusal P I
-  unfolding refusal
-  refused h = e ∙ sym (otherwise-first (plants.refusal P) (index-refusal P I) (λ z. h (e ∙ z)))
+module _ (P : Plant) (I : Index) (r : ℕ) (e : r ≡ plants.plant-refusal P) where
+  refused : (r ≡ 0 → ⊥) → r ≡ tables-refusal P I
+  unfolding tables-refusal
+  refused h = e ∙ sym (otherwise-first (plants.plant-refusal P) (index-refusal P I) (λ z. h (e ∙ z)))
 
-  rows : r ≡ 0 → index-refusal P I ≡ refusal P I
-  unfolding refusal
-  rows z = sym (otherwise-next (plants.refusal P) (index-refusal P I) (sym e ∙ z))
+  rows : r ≡ 0 → index-refusal P I ≡ tables-refusal P I
+  unfolding tables-refusal
+  rows z = sym (otherwise-next (plants.plant-refusal P) (index-refusal P I) (sym e ∙ z))
 
 abbrev plant-of : tie.Start → Plant
 plant-of s = plant (now (s .args .last)) (now (s .args .root)) (now (s .args .level))
@@ -53,7 +53,7 @@ module _ (P : Plant) (I : Index) where
 abbrev start : tie.Else1 → tie.Start
 start c = c .before .before .before .before .before .before .before .before
 
-rows-5 : (c : tie.Else1) → index-refusal (plant-of (start c)) (index-of (start c)) ≡ refusal (plant-of (start c)) (index-of (start c))
+rows-5 : (c : tie.Else1) → index-refusal (plant-of (start c)) (index-of (start c)) ≡ tables-refusal (plant-of (start c)) (index-of (start c))
 rows-5 c = rows (plant-of (start c)) (index-of (start c)) _ (c .before .check .ensures) (c .if1 .left)
 
 crowded : (c : tie.Joined2) → unfit (index-of (start (c .before))) ≡ true
@@ -76,13 +76,13 @@ fit c = simp tests (omega flags)
 even : (c : tie.Else4) → length (I c .starts) ≡ count (I c)
 even c = omega flags
 
-rows-6 : (c : tie.Else4) → from-6 (P c) (I c) ≡ refusal (P c) (I c)
+rows-6 : (c : tie.Else4) → from-6 (P c) (I c) ≡ tables-refusal (P c) (I c)
 rows-6 c = rw (fit c) at (rows-5 (c .before .before .before))
 
 returns-3 : tie.Need-returns-3
 returns-3 c = rw (sym (c .before .any-misplaced-term .ensures) ∙ c .if5 .taken) at (rows-6 (c .before .before))
 
-rows-7 : (c : tie.Else5) → let d = c .before .before in from-7 (P d) (I d) ≡ refusal (P d) (I d)
+rows-7 : (c : tie.Else5) → let d = c .before .before in from-7 (P d) (I d) ≡ tables-refusal (P d) (I d)
 rows-7 c = rw (sym (c .before .any-misplaced-term .ensures) ∙ c .if5 .left) at (rows-6 (c .before .before))
 
 returns-4 : tie.Need-returns-4
@@ -90,7 +90,7 @@ returns-4 c =
     let e = c .before .before in
     rw (rw (even (e .before .before)) at (sym (c .before .any-wrong-start .ensures) ∙ c .if6 .taken)) at (rows-7 e)
 
-rows-8 : (c : tie.Else6) → let d = c .before .before .before .before in from-8 (P d) (I d) ≡ refusal (P d) (I d)
+rows-8 : (c : tie.Else6) → let d = c .before .before .before .before in from-8 (P d) (I d) ≡ tables-refusal (P d) (I d)
 rows-8 c =
     let e = c .before .before in
     rw (rw (even (e .before .before)) at (sym (c .before .any-wrong-start .ensures) ∙ c .if6 .left)) at (rows-7 e)
@@ -103,7 +103,7 @@ returns-5 c =
 any-redundant-requires : tie.Need-any-redundant-requires
 any-redundant-requires c κs = sym (c .before .any-misplaced .ensures) ∙ c .if7 .left
 
-rows-9 : (c : tie.Else7) → let d = c .before .before .before .before .before .before in from-9 (P d) (I d) ≡ refusal (P d) (I d)
+rows-9 : (c : tie.Else7) → let d = c .before .before .before .before .before .before in from-9 (P d) (I d) ≡ tables-refusal (P d) (I d)
 rows-9 c =
     let e = c .before .before in
     rw (rw (even (e .before .before .before .before)) at (sym (c .before .any-misplaced .ensures) ∙ c .if7 .left)) at (rows-8 e)
