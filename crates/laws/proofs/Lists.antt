@@ -21,7 +21,7 @@ slice-taken (suc a) (suc e) [] = take-nil (suc e - suc a)
 slice-taken (suc a) (suc e) (x ∷ xs) = let q : suc e - suc a ≡ e - a = omega arith in rw q (slice-taken a e xs)
 
 -- a bound past the end is as good as the end
-take-clamped : (e : ℕ) (l : List ℕ) → take (min e (length l)) l ≡ take e l
+pub take-clamped : (e : ℕ) (l : List ℕ) → take (min e (length l)) l ≡ take e l
 take-clamped e l =
     by-order e (length l) (λ h. let q : min e (length l) ≡ e = omega arith in rw q)
     (λ h. let q : min e (length l) ≡ length l = omega arith in rw (q, take-all e l h, take-length l))

@@ -1,65 +1,61 @@
--- The query (document 01's ask), the level rule, and the refusals of its own.
-use Prim.Native.Nat.{ℕ, _+_}
-use mathlib.Core.Bool.{Bool, true, false, _&&_, _||_, not}
-use mathlib.Core.List.{List}
+-- The query (document 01's ask): its terms, its updates, and the level rule.
+use Prim.Native.Nat.{ℕ, _+_, _-_}
+use mathlib.Core.Bool.{Bool, true, false, cond, _&&_, not}
+use mathlib.Core.List.{List, _++_}
 use lib.Dec.{leb, ltb, eqb}
-use lib.ListN.{length, take, replicate}
-use Rattle.laws.specs.Rows.{pick}
-use Rattle.laws.specs.Search.{any}
-use Rattle.laws.specs.Tables.{entry}
+use lib.ListN.{length, take, set, replicate}
+use Rattle.laws.specs.Limits.{largest-number}
 use Rattle.query.specs.declared.Levels.{Levels}
+use Rattle.query.specs.declared.terms.Terms.{Terms}
 use Rattle.query.specs.declared.Query.{Query}
+
+-- "Up to 8 needed and 8 barred marks": of each kind
+abbrev pub most-named : ℕ
+most-named = 8
+
+-- "Codes 0 to 254 are true levels; 255 means no true level"
+abbrev pub highest-level : ℕ
+highest-level = 254
+
+abbrev pub no-level : ℕ
+no-level = 255
+
+-- the terms of one kind, required (needed marks) or forbidden (barred marks), as they are written
+abbrev pub used : Terms → List ℕ
+used ts = take (ts .count) (ts .places)
+
+abbrev pub none : Terms
+none = record { places = replicate most-named 0; count = 0 }
+
+-- with one term more, where there is a place left
+abbrev pub with-term : Terms → ℕ → Terms
+with-term ts t = cond (ltb (ts .count) most-named) (record { places = set (ts .places) (ts .count) t; count = ts .count + 1 }) ts
+
+-- the terms of a list: the first eight, and zeros in the places left; a ninth is counted and not kept, since nine terms are refused
+unfoldable pub terms-of : List ℕ → Terms
+terms-of l = record { places = take most-named l ++ replicate (most-named - length l) 0; count = length l }
 
 -- "an empty ask to begin from: no marks, no window, start 1, the largest allowance"
 abbrev pub empty : Query
-empty = record {
-  required = replicate 8 0;
-  «required_count» = 0;
-  forbidden = replicate 8 0;
-  «forbidden_count» = 0;
-  levels = Levels.Any;
-  start = 1;
-  budget = 4294967295;
-}
+empty = record { required = none; forbidden = none; levels = Levels.Any; start = 1; budget = largest-number }
 
--- the terms that a query requires (needed marks) and those that it forbids (barred marks), as they are written
-abbrev pub required : Query → List ℕ
-required q = take (q .«required_count») (q .required)
+-- a query with another part
+abbrev pub with-required : Query → ℕ → Query
+with-required q t = record { required = with-term (q .required) t; forbidden = q .forbidden; levels = q .levels; start = q .start; budget = q .budget }
 
-abbrev pub forbidden : Query → List ℕ
-forbidden q = take (q .«forbidden_count») (q .forbidden)
+abbrev pub with-forbidden : Query → ℕ → Query
+with-forbidden q t = record { required = q .required; forbidden = with-term (q .forbidden) t; levels = q .levels; start = q .start; budget = q .budget }
 
--- "Codes 0 to 254 are true levels; 255 means no true level": a range (document 01's window) holds true levels alone
+abbrev pub with-levels : Query → Levels → Query
+with-levels q l = record { required = q .required; forbidden = q .forbidden; levels = l; start = q .start; budget = q .budget }
+
+abbrev pub with-start : Query → ℕ → Query
+with-start q n = record { required = q .required; forbidden = q .forbidden; levels = q .levels; start = n; budget = q .budget }
+
+abbrev pub with-budget : Query → ℕ → Query
+with-budget q n = record { required = q .required; forbidden = q .forbidden; levels = q .levels; start = q .start; budget = n }
+
+-- whether a query wants a level code: a range (document 01's window) holds true levels alone
 abbrev pub in-range : Levels → ℕ → Bool
 in-range Levels.Any code = true
-in-range (Levels.Range low high) code = leb low code && leb code high && not (eqb code 255)
-
--- 10: "a count over 8"
-abbrev pub crowded : Query → Bool
-crowded q = ltb 8 (q .«required_count») || ltb 8 (q .«forbidden_count»)
-
--- 11: "a used mark outside 1..65,535"
-abbrev pub no-term : List ℕ → ℕ → Bool
-no-term ts k = eqb (entry ts k) 0 || ltb 65535 (entry ts k)
-
-abbrev pub no-terms : List ℕ → Bool
-no-terms ts = any (length ts) (no-term ts)
-
--- 12: "a window with low above high, or high above 254"
-abbrev pub no-range : Levels → Bool
-no-range Levels.Any = false
-no-range (Levels.Range low high) = ltb high low || ltb 254 high
-
--- 13: "start 0 or above N + 1"
-abbrev pub no-start : ℕ → ℕ → Bool
-no-start n start = eqb start 0 || ltb (n + 1) start
-
--- document 01's rows for the ask, over a plant of n devices and an answer list with room for some; 14: "answer list shorter than N"
-abbrev pub query-refusal : ℕ → ℕ → Query → ℕ
-query-refusal n room q =
-    pick (crowded q) 10
-    (pick (no-terms (required q) || no-terms (forbidden q)) 11
-    (pick (no-range (q .levels)) 12
-    (pick (no-start n (q .start)) 13
-    (pick (ltb room n) 14
-    0))))
+in-range (Levels.Range low high) code = leb low code && leb code high && not (eqb code no-level)

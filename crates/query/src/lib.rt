@@ -1,12 +1,18 @@
 // The query, the level codes that it wants, and its refusals.
 ghost use mathlib.Core.Path.{_≡_};
-ghost use Rattle.query.specs.Query.{empty};
+ghost use Rattle.query.specs.Query.{empty, with-required, with-forbidden, with-levels, with-start, with-budget};
+use terms::none;
+use terms::with_term;
 
 mod range;
 mod refusals;
+mod terms;
 
 pub use range::in_range;
+pub use refusals::common_refusal;
 pub use refusals::refusal;
+pub use terms::Terms;
+pub use terms::terms_of;
 
 // Which level codes a query wants (document 01: its window). A code of 255 is no true level and lies in no range.
 pub enum Levels {
@@ -14,12 +20,10 @@ pub enum Levels {
     Range(u32, u32),
 }
 
-// A query (document 01: an ask): the first `required_count` entries of `required`, and likewise of `forbidden`, are its terms.
+// A query (document 01: an ask).
 pub struct Query {
-    pub required: [u32; 8],
-    pub required_count: usize,
-    pub forbidden: [u32; 8],
-    pub forbidden_count: usize,
+    pub required: Terms,
+    pub forbidden: Terms,
     pub levels: Levels,
     pub start: u32,
     pub budget: u32,
@@ -38,15 +42,62 @@ impl Query {
     pub fn empty() -> Query
         ensures { λ r. ⌜ r ≡ empty ⌝ }
     {
-        let none = [0; 8];
+        let required = none();
+        let forbidden = none();
         Query {
-            required: none,
-            required_count: 0,
-            forbidden: none,
-            forbidden_count: 0,
+            required,
+            forbidden,
             levels: Levels::Any,
             start: 1,
             budget: Query::LARGEST_BUDGET,
         }
+    }
+
+    // The query with one required term more; where it has eight, it stays as it is.
+    pub fn with_required(mut self, term: u32) -> Query
+        ensures { λ r. ⌜ r ≡ with-required self term ⌝ }
+    {
+        let terms = self.required;
+        let more = with_term(terms, term);
+        self.required = more;
+        self
+    }
+
+    // The query with one forbidden term more; where it has eight, it stays as it is.
+    pub fn with_forbidden(mut self, term: u32) -> Query
+        ensures { λ r. ⌜ r ≡ with-forbidden self term ⌝ }
+    {
+        let terms = self.forbidden;
+        let more = with_term(terms, term);
+        self.forbidden = more;
+        self
+    }
+
+    pub fn with_levels(self, levels: Levels) -> Query
+        ensures { λ r. ⌜ r ≡ with-levels self levels ⌝ }
+    {
+        let required = self.required;
+        let forbidden = self.forbidden;
+        Query {
+            required,
+            forbidden,
+            levels,
+            start: self.start,
+            budget: self.budget,
+        }
+    }
+
+    pub fn with_start(mut self, start: u32) -> Query
+        ensures { λ r. ⌜ r ≡ with-start self start ⌝ }
+    {
+        self.start = start;
+        self
+    }
+
+    pub fn with_budget(mut self, budget: u32) -> Query
+        ensures { λ r. ⌜ r ≡ with-budget self budget ⌝ }
+    {
+        self.budget = budget;
+        self
     }
 }

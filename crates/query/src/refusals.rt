@@ -1,12 +1,23 @@
-// The refusals of a query.
+// The refusals of a query: small tables, one after another, as the definition has them. Each can be asked of any query.
 ghost use mathlib.Core.Path.{_≡_};
 ghost use mathlib.Core.Bool.{_||_};
 ghost use lib.Dec.{ltb};
-ghost use Rattle.query.specs.Query.{no-terms, no-range, query-refusal};
+ghost use Rattle.laws.specs.Rows.{otherwise};
+ghost use Rattle.query.specs.Query.{used};
+ghost use Rattle.query.specs.Refusals.{no-terms, no-range, count-rows, term-rows, level-rows, start-rows, room-rows, common-refusal, query-refusal};
 use crate::Levels;
 use crate::Query;
+use crate::Terms;
+use integers::least;
 
-// Whether a term is none.
+// A table after another: the first refusal, or, where that is 0, the second.
+fn otherwise(first: u32, rest: u32) -> u32
+    ensures { λ r. ⌜ r ≡ otherwise first rest ⌝ }
+{
+    if first == 0 { rest } else { first }
+}
+
+// Whether a term of a list is none.
 fn no_terms(terms: &[u32]) -> bool
     ensures { λ r. ⌜ r ≡ no-terms (now (terms .entry)) ⌝ }
 {
@@ -19,6 +30,15 @@ fn no_terms(terms: &[u32]) -> bool
         }
     }
     false
+}
+
+// Whether a used term is none.
+fn any_no_term(terms: Terms) -> bool
+    ensures { λ r. ⌜ r ≡ no-terms (used terms) ⌝ }
+{
+    let places = terms.places;
+    let count = least(terms.count, Query::MOST_TERMS);
+    no_terms(&places[..count])
 }
 
 // Whether low..high is no range of true levels.
@@ -40,33 +60,73 @@ fn no_range(levels: Levels) -> bool
     }
 }
 
-// The lowest refusal number that applies to a query over a plant of `devices` devices, with room for `room` in the answer list, or 0.
-pub fn refusal(query: Query, devices: usize, room: usize) -> u32
-    ensures { λ r. ⌜ r ≡ query-refusal devices room query ⌝ }
+fn count_rows(required: usize, forbidden: usize) -> u32
+    ensures { λ r. ⌜ r ≡ count-rows required forbidden ⌝ }
 {
-    let required_count = query.required_count;
-    let forbidden_count = query.forbidden_count;
-    if Query::MOST_TERMS < required_count || Query::MOST_TERMS < forbidden_count {
+    if Query::MOST_TERMS < required || Query::MOST_TERMS < forbidden {
         return 10;
     }
-    let required = query.required;
-    if no_terms(&required[..required_count]) {
+    0
+}
+
+fn term_rows(required: Terms, forbidden: Terms) -> u32
+    ensures { λ r. ⌜ r ≡ term-rows (used required) (used forbidden) ⌝ }
+{
+    if any_no_term(required) {
         return 11;
     }
-    let forbidden = query.forbidden;
-    if no_terms(&forbidden[..forbidden_count]) {
+    if any_no_term(forbidden) {
         return 11;
     }
-    let levels = query.levels;
+    0
+}
+
+fn level_rows(levels: Levels) -> u32
+    ensures { λ r. ⌜ r ≡ level-rows levels ⌝ }
+{
     if no_range(levels) {
         return 12;
     }
-    let start = query.start;
+    0
+}
+
+fn start_rows(devices: usize, start: u32) -> u32
+    ensures { λ r. ⌜ r ≡ start-rows devices start ⌝ }
+{
     if start == 0 || devices < (start - 1) as usize {
         return 13;
     }
+    0
+}
+
+fn room_rows(devices: usize, room: usize) -> u32
+    ensures { λ r. ⌜ r ≡ room-rows devices room ⌝ }
+{
     if room < devices {
         return 14;
     }
     0
+}
+
+// The lowest of the refusals 10 to 13 that applies to a query over a plant of `devices` devices, or 0: those that do not hang on where its
+// answer goes.
+pub fn common_refusal(query: Query, devices: usize) -> u32
+    ensures { λ r. ⌜ r ≡ common-refusal devices query ⌝ }
+{
+    let required = query.required;
+    let forbidden = query.forbidden;
+    let levels = query.levels;
+    let counts = count_rows(required.count, forbidden.count);
+    let terms = term_rows(required, forbidden);
+    let range = level_rows(levels);
+    let start = start_rows(devices, query.start);
+    otherwise(counts, otherwise(terms, otherwise(range, start)))
+}
+
+// The lowest of the refusals 10 to 14 that applies to a search for a query over a plant of `devices` devices, with room for `room` in the
+// answer list, or 0.
+pub fn refusal(query: Query, devices: usize, room: usize) -> u32
+    ensures { λ r. ⌜ r ≡ query-refusal devices room query ⌝ }
+{
+    otherwise(common_refusal(query, devices), room_rows(devices, room))
 }

@@ -5,7 +5,7 @@ use Rattle.laws.proofs.Search.{None, none-yet, none-up, any-found, any-none}
 use Rattle.laws.proofs.Tests.{tests, flags}
 use Rattle.query.proofs.refusals.no_terms.Statement.{statement}
 use Rattle.query.proofs.refusals.no_terms.Tie as tie
-use Rattle.query.specs.Query.{no-term}
+use Rattle.query.specs.Refusals.{no-term}
 use borrow.Author.Needs.{needs}
 use lib.ListN.{length}
 use native.Mathlib.Omega.{arith}

@@ -1,0 +1,9 @@
+-- `query::refusals::otherwise` meets its contract, by the branch taken.
+use Rattle.laws.proofs.Rows.{otherwise-first, otherwise-next}
+use mathlib.Core.Path.{sym}
+use Rattle.query.proofs.refusals.otherwise.Statement.{statement}
+use Rattle.query.proofs.refusals.otherwise.Tie as tie
+
+pub otherwise-spec : {M : Type 1} → statement M
+otherwise-spec =
+    tie.close (tie.spec (λ c. sym (otherwise-next _ _ (c .if1 .taken))) (λ c. sym (otherwise-first _ _ (c .if1 .left))))
