@@ -14,34 +14,23 @@ use Rattle.laws.proofs.Rows.{otherwise-first, otherwise-next, otherwise-none}
 use Rattle.laws.proofs.Maps.{map-take}
 use Rattle.plant.specs.Plant.{Plant, size}
 use Rattle.plant.proofs.Forest as plants
-use Rattle.index.specs.Postings.{device}
 use Rattle.index.specs.Index as indexes
 use Rattle.index.specs.Index.{Index, count, misplaced-term, list-of}
-use Rattle.index.proofs.Lists.{here, ranged}
 use Rattle.index.proofs.Accepted as index-laws
-use Rattle.index.proofs.Accepted.{SoundList, accepted-list-of}
+use Rattle.index.proofs.Accepted.{accepted-list-of, sound-rising}
+use Rattle.index.specs.inner.Lists.{SoundList}
 use Rattle.steps.specs.Steps as runs
 use Rattle.steps.specs.Steps.{End, placed, run}
-use Rattle.steps.proofs.Kept.{kept}
-use Rattle.query.specs.Query.{required, forbidden, in-range, query-refusal}
+use Rattle.steps.proofs.Promises.{lists-exactly, keeps-budget}
+use Rattle.query.specs.Query.{used, in-range}
+use Rattle.query.specs.Refusals.{query-refusal}
 use Rattle.query.specs.declared.Query.{Query}
-use Rattle.query.proofs.Accepted.{Accepted, accepted}
-use Rattle.search.specs.inner.Cursors.{Sound, Lists, Tables, begin, Ends}
-use Rattle.search.specs.Answer.{search-refusal, criteria, ended, answer-of, written, answer, answer-list}
-use Rattle.search.specs.Promises.{Promised}
-use Rattle.search.specs.declared.Answer.{Answer}
+use Rattle.query.proofs.Accepted.{AcceptedSearch, accepted-search}
+use Rattle.search.specs.inner.Cursors.{most-cursors, Lists, Tables, begin, RunGives}
+use Rattle.search.specs.Answer.{search-refusal, criteria, ended, answer-of, written}
+use Rattle.search.specs.Promises.{Promised, Searched}
 use Rattle.search.specs.declared.run.Listing.{Listing}
 use Rattle.search.proofs.RunByIndex.{begin-is}
-
--- a list of an accepted index is one that cursors go along
-sound-list : {last l : List ℕ} → SoundList last l → Sound last l
-sound-list {last} {l} s = record {
-  devices = λ k h.
-      let r = ranged (length last) device l (s .none-misplaced) (k + 1) (omega arith) (omega arith) in
-      let e = here device l k in
-      record { first = omega arith; last = omega arith };
-  sorted = s .sorted;
-}
 
 -- what the rows come to where none applies
 pub record Admitted (P : Plant) (I : Index) (q : Query) (room : ℕ) : Type 0 where
@@ -49,7 +38,7 @@ pub record Admitted (P : Plant) (I : Index) (q : Query) (room : ℕ) : Type 0 wh
   pub tables : Tables (P .last) (P .root)
   pub terms : any (count I) (misplaced-term I) ≡ false
   pub list : (t : ℕ) → SoundList (P .last) (list-of I t)
-  pub query : Accepted (size P) room q
+  pub query : AcceptedSearch (size P) room q
 
 pub admitted : (P : Plant) (I : Index) (q : Query) (n : ℕ) → search-refusal P I q n ≡ 0 → Admitted P I q n
 unfolding search-refusal
@@ -62,7 +51,7 @@ admitted P I q n h =
       tables = record { same = s .roots; few = s .few; inside = λ d e. s .inside d (e .first) (e .last) };
       terms = t .terms-rise;
       list = accepted-list-of P I (a .0);
-      query = accepted (size P) n q (a .1);
+      query = accepted-search (size P) n q (a .1);
     }
 
 -- the list of the k-th of some terms
@@ -72,8 +61,8 @@ getD-within-map f (t ∷ ts) zero h = refl
 getD-within-map f (t ∷ ts) (suc k) h = getD-within-map f ts k (omega arith)
 
 -- the lists of some terms
-lists-sound : {P : Plant} {I : Index} {q : Query} {n : ℕ} → Admitted P I q n → (ts : List ℕ) → length ts ≤ 16 → Lists (P .last) (map (list-of I) ts)
-lists-sound {P} {I} a ts h = record { few = rw length-map h; each = λ k b. rw (getD-within-map (list-of I) ts k (rw length-map at b)) (sound-list (a .list (getD ts k 0))) }
+lists-sound : {P : Plant} {I : Index} {q : Query} {n : ℕ} → Admitted P I q n → (ts : List ℕ) → length ts ≤ most-cursors → Lists (P .last) (map (list-of I) ts)
+lists-sound {P} {I} a ts h = record { few = rw length-map h; each = λ k b. rw (getD-within-map (list-of I) ts k (rw length-map at b)) (a .list (getD ts k 0)) }
 
 -- slices that were set to the lists of k terms, and after those to the lists of f more
 module _ (I : Index) (ts us : List ℕ) (slices slices′ : List (RefT (List ℕ))) {k f : ℕ} (e : k ≡ length ts) (g : f ≡ length us)
@@ -93,9 +82,9 @@ module _ (I : Index) (ts us : List ℕ) (slices slices′ : List (RefT (List ℕ
 
 -- so its end is the end of the steps
 pub run-ended : (P : Plant) (I : Index) (q : Query) {cs : List runs.Cursor} {out out′ : List ℕ} {r : Listing}
-    → cs ≡ placed (list-of I) runs.required (required q) ++ placed (list-of I) runs.forbidden (forbidden q)
-    → Ends (run (P .last) (P .root) (size P + 1) (λ d. in-range (q .levels) (entry (P .level) d)) (size P + 1) (q .budget) (q .start) cs) out out′ r
-    → Ends (ended P I q (q .budget)) out out′ r
+    → cs ≡ placed (list-of I) runs.required (used (q .required)) ++ placed (list-of I) runs.forbidden (used (q .forbidden))
+    → RunGives (run (P .last) (P .root) (size P + 1) (λ d. in-range (q .levels) (entry (P .level) d)) (size P + 1) (q .budget) (q .start) cs) out out′ r
+    → RunGives (ended P I q (q .budget)) out out′ r
 unfolding ended
 run-ended P I q e x = rw e at x
 
@@ -126,28 +115,30 @@ pub promised : (P : Plant) (I : Index) (q : Query) (room : ℕ) → search-refus
 unfolding ended
 promised P I q room h =
     let a = admitted P I q room h in
+    let k = a .query .query in
     record {
+      lists = lists-exactly P (a .forest) (list-of I) (λ t. sound-rising (a .list t)) (criteria P q) (k .from-first) (k .to-end) (omega arith) (q .budget);
       passed = ended P I q (q .budget) .counts .passed;
       short = ended P I q (q .budget) .short;
-      kept = kept P (a .forest) (list-of I) (λ t. a .list t .rising) (criteria P q) (a .query .from-first) (a .query .to-end) (omega arith) (q .budget);
+      budget = keeps-budget P (a .forest) (list-of I) (λ t. sound-rising (a .list t)) (criteria P q) (k .from-first) (k .to-end) (omega arith) (q .budget);
     }
-
--- what the contract of `search` says of an answer
-abbrev pub Searched : Plant → Index → Query → List ℕ → List ℕ → Answer → Type 0
-Searched P I q out out′ r =
-    (r ≡ answer P I q (length out)) × ((out′ ≡ answer-list P I q out) × (r .refusal ≡ 0 → Promised P I q (take (r .count) out′) (r .position) (r .moves)))
 
 module _ (P : Plant) (I : Index) (q : Query) {out : List ℕ} {n : ℕ} (e : n ≡ search-refusal P I q (length out)) where
   pub searched-refused : (n ≡ 0 → ⊥) → Searched P I q out out (record { refusal = n; count = 0; position = 0; moves = 0 })
-  searched-refused z = (
-    rw e (told-refused (search-refusal P I q (length out)) _ (λ o. z (e ∙ o))),
-    (written-refused (search-refusal P I q (length out)) _ out (λ o. z (e ∙ o)), λ o. absurd (z o)),
-  )
+  searched-refused z = record {
+    answers = rw e (told-refused (search-refusal P I q (length out)) _ (λ o. z (e ∙ o)));
+    lists = written-refused (search-refusal P I q (length out)) _ out (λ o. z (e ∙ o));
+    promised = λ o. absurd (z o);
+  }
 
-  pub searched : {out′ : List ℕ} {r : Listing} → n ≡ 0 → Ends (ended P I q (q .budget)) out out′ r
+  pub searched : {out′ : List ℕ} {r : Listing} → n ≡ 0 → RunGives (ended P I q (q .budget)) out out′ r
       → Searched P I q out out′ (record { refusal = 0; count = r .count; position = r .position; moves = r .moves })
   searched {out′} {r} z x =
       let o : search-refusal P I q (length out) ≡ 0 = sym e ∙ z in
       let listed = ended P I q (q .budget) .listed in
       let t : take (length listed) out′ ≡ listed = rw (x .written) (take-at listed _ (length listed) refl) in
-      (rw (o, x .count, x .position, x .moves), (rw o (x .written), λ _. rw (x .count, x .position, x .moves, t) (promised P I q (length out) o)))
+      record {
+        answers = rw (o, x .count, x .position, x .moves);
+        lists = rw o (x .written);
+        promised = λ _. rw (x .count, x .position, x .moves, t) (promised P I q (length out) o);
+      }

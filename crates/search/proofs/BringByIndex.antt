@@ -11,11 +11,12 @@ use Rattle.laws.proofs.Cases.{split-cond}
 use Rattle.laws.proofs.Tests.{tests, flags}
 use Rattle.index.specs.Postings.{device, shared, reach}
 use Rattle.index.specs.Forward.{forward, Sought}
+use Rattle.index.proofs.Accepted.{sound-device, sound-sorted}
 use Rattle.steps.specs.Moves.{behind}
 use Rattle.steps.proofs.ByIndex.{target, Ahead, ahead-start, ahead-moves, ahead-ends, ahead-spent}
 use Rattle.steps.proofs.Stretch.{Rests}
 use Rattle.search.specs.inner.Cursors.{Cursor, Tables, Brings}
-use Rattle.search.specs.declared.cursor.Brought.{Brought}
+use Rattle.search.specs.declared.cursor.CursorAt.{CursorAt}
 
 -- the cursor, brought from index f after m₀ moves of a budget, is at index i after m
 pub record Going (last root l : List ℕ) (p budget m₀ f i m : ℕ) : Type 0 where
@@ -28,7 +29,7 @@ going-start {m} k h = let u : m - m ≡ 0 = omega arith in record { ahead = rw u
 
 module _ {last root l : List ℕ} {end p budget m₀ f i m : ℕ} (a : Going last root l p budget m₀ f i m) (e : p < end) (w : end ≤ length last + 1) where
   -- it has been brought to p, where it rests
-  going-rests : {b : Bool} {to : ℕ} {r : Brought} → behind last p (drop i l) ≡ false → to ≤ length last → Rests last end (drop i l) p b to
+  going-rests : {b : Bool} {to : ℕ} {r : CursorAt} → behind last p (drop i l) ≡ false → to ≤ length last → Rests last end (drop i l) p b to
       → r ≡ record { at = i; moves = m; carries = b; to = to; spent = false } → Brings last root l end p budget m₀ f r
   going-rests h t s o = rw o (record {
     within = a .ahead .within;
@@ -40,7 +41,7 @@ module _ {last root l : List ℕ} {end p budget m₀ f i m : ℕ} (a : Going las
     rests = λ z. s;
   })
 
-  pub going-ends : {r : Brought} → length l ≤ i → r ≡ record { at = i; moves = m; carries = false; to = end - 1; spent = false }
+  pub going-ends : {r : CursorAt} → length l ≤ i → r ≡ record { at = i; moves = m; carries = false; to = end - 1; spent = false }
       → Brings last root l end p budget m₀ f r
   going-ends h =
       let d = drop-of-length-le l {i = i} h in
@@ -48,9 +49,9 @@ module _ {last root l : List ℕ} {end p budget m₀ f i m : ℕ} (a : Going las
 
   module _ (c : Cursor last l f) (h : i < length l) where
     pub going-device : IsEntry last (device (getD l i 0))
-    going-device = c .sound .devices i h
+    going-device = sound-device (c .sound) i h
 
-    pub going-past : {r : Brought} → p < device (getD l i 0)
+    pub going-past : {r : CursorAt} → p < device (getD l i 0)
         → r ≡ record { at = i; moves = m; carries = false; to = device (getD l i 0) - 1; spent = false } → Brings last root l end p budget m₀ f r
     going-past g =
         let d = drop-cons l i 0 h in
@@ -58,7 +59,7 @@ module _ {last root l : List ℕ} {end p budget m₀ f i m : ℕ} (a : Going las
         going-rests (rw d (simp tests (omega flags))) (omega arith) (rw d (record { from = omega arith; here = simp tests (omega flags); next = omega arith }))
 
     module _ (b : Tables last root) (g : device (getD l i 0) ≤ p) {reached : ℕ} (x : reached ≡ reach last (getD l i 0)) where
-      pub going-carries : {r : Brought} → p ≤ reached → r ≡ record { at = i; moves = m; carries = true; to = reached; spent = false }
+      pub going-carries : {r : CursorAt} → p ≤ reached → r ≡ record { at = i; moves = m; carries = true; to = reached; spent = false }
           → Brings last root l end p budget m₀ f r
       going-carries z =
           let d = drop-cons l i 0 h in
@@ -83,6 +84,6 @@ module _ {last root l : List ℕ} {end p budget m₀ f i m : ℕ} (a : Going las
 
         pub going-moves : {t j : ℕ} → m < budget → t ≡ target last root p (getD l i 0) → Sought l (i + 1) t j → Going last root l p budget m₀ f j (m + 1)
         going-moves {t} {j} y q s =
-            let w : j ≡ forward l (i + 1) (target last root p (getD l i 0)) = rw (← q) (s .sorted (λ a b _ d e. c .sound .sorted a b d e)) in
+            let w : j ≡ forward l (i + 1) (target last root p (getD l i 0)) = rw (← q) (s .sorted (sound-sorted (c .sound) (i + 1))) in
             let u : m + 1 - m₀ ≡ m - m₀ + 1 = omega (arith, a .more) in
             record { ahead = rw u (ahead-moves (a .ahead) h still-behind (omega (arith, a .more)) w); more = omega (arith, a .more); few = omega arith }

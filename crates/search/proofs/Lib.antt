@@ -6,4 +6,4 @@ pub mod RunByIndex
 pub mod Gathering
 -- An answer
 pub mod Answers
-pub mod Rows
+pub mod DocumentRows

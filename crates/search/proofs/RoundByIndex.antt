@@ -17,9 +17,9 @@ use Rattle.steps.specs.Steps.{required, forbidden, Outcome, accepts, again, sto
 use Rattle.steps.proofs.Counts.{round-by}
 use Rattle.steps.proofs.Rounds.{asks}
 use Rattle.steps.proofs.Stretch.{Rests, rests-on, rests-outcome, Accept}
-use Rattle.search.specs.inner.Cursors.{Cursor, Brings, side-of, cursors, Valid, Turns}
-use Rattle.search.specs.declared.cursor.Brought.{Brought}
-use Rattle.search.specs.declared.run.Round.{Round}
+use Rattle.search.specs.inner.Cursors.{most-cursors, Cursor, Brings, side-of, cursors, Valid, Turns}
+use Rattle.search.specs.declared.cursor.CursorAt.{CursorAt}
+use Rattle.search.specs.declared.run.RoundEnd.{RoundEnd}
 
 -- ---- the cursors, by index
 
@@ -158,7 +158,7 @@ doing-start {m} v h w b e = let u : m - m ≡ 0 = omega arith in record {
 
 module _ {last root : List ℕ} {ls : List (List ℕ)} {n k end p budget m₀ : ℕ} {x₀ x : List ℕ} {m to i : ℕ}
     (a : Doing last root ls n k end p budget m₀ x₀ x m to i) where
-  pub doing-ends : n ≤ i → {r : Round} → r ≡ record { moves = m; to = to; accepted = true; stop = false } → Turns last root ls k end p budget m₀ x₀ x r
+  pub doing-ends : n ≤ i → {r : RoundEnd} → r ≡ record { moves = m; to = to; accepted = true; stop = false } → Turns last root ls k end p budget m₀ x₀ x r
   unfolding cursors round
   doing-ends h o = let e : i ≡ length ls = omega arith in rw o (record {
     valid = a .valid;
@@ -179,13 +179,13 @@ module _ {last root : List ℕ} {ls : List (List ℕ)} {n k end p budget m₀ : 
     indexed : i < length x
     indexed = let l = inside in omega arith
 
-    pub in-sixteen : i < 16
-    in-sixteen = let l = inside in omega arith
+    pub in-array : i < most-cursors
+    in-array = let l = inside in omega arith
 
     pub here : {l : List ℕ} → l ≡ getD ls i [] → Cursor last l (getD x i 0)
     here e = rw e (a .valid .each i inside)
 
-    module _ {l : List ℕ} {b : Brought} (g : Brings last root l end p budget m (getD x i 0) b) (o : l ≡ getD ls i []) where
+    module _ {l : List ℕ} {b : CursorAt} (g : Brings last root l end p budget m (getD x i 0) b) (o : l ≡ getD ls i []) where
       abbrev x′ : List ℕ
       x′ = set x i (b .at)
 
@@ -220,7 +220,7 @@ module _ {last root : List ℕ} {ls : List (List ℕ)} {n k end p budget m₀ : 
           ∙ ap (leads (cursors k x 0 (take i ls)) (counts (m - m₀) (a .passed))) (first c e ∙ ap (onto (placed k i l (b .at)) (counts (b .moves - m) (b .at - getD x i 0 - (b .moves - m)))) (sym u))
           ∙ round-same (sym (put-all k x ls i (b .at) inside indexed ∙ rw (← o))) (omega (arith, g .more, a .more)) (omega arith)
 
-      pub doing-stops : b .spent ≡ true → {r : Round} → r ≡ record { moves = b .moves; to = p; accepted = false; stop = true }
+      pub doing-stops : b .spent ≡ true → {r : RoundEnd} → r ≡ record { moves = b .moves; to = p; accepted = false; stop = true }
           → Turns last root ls k end p budget m₀ x₀ x′ r
       doing-stops e f = rw f (record {
         valid = moved;
@@ -239,7 +239,7 @@ module _ {last root : List ℕ} {ls : List (List ℕ)} {n k end p budget m₀ : 
         resting = g .rests e
 
         pub doing-again : not (Bool·beq (b .carries) asked) ≡ true
-            → {r : Round} → r ≡ record { moves = b .moves; to = b .to; accepted = false; stop = false }
+            → {r : RoundEnd} → r ≡ record { moves = b .moves; to = b .to; accepted = false; stop = false }
             → Turns last root ls k end p budget m₀ x₀ x′ r
         doing-again z f = rw f (record {
           valid = moved;

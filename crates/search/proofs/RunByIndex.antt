@@ -11,8 +11,8 @@ use Rattle.steps.specs.Matching.{matching}
 use Rattle.steps.specs.Steps.{required, forbidden, placed, End, ends, counted, listing, run}
 use Rattle.steps.proofs.Counts.{run-by, run-over}
 use Rattle.steps.proofs.Stretch.{led, listing-led, counted-none, run-still}
-use Rattle.search.specs.inner.Cursors.{Tables, Valid, Lists, cursors, begin, stretch, Turns, Writes, Ends}
-use Rattle.search.specs.declared.run.Round.{Round}
+use Rattle.search.specs.inner.Cursors.{most-cursors, Tables, Valid, Lists, cursors, begin, stretch, Turns, Writes, RunGives}
+use Rattle.search.specs.declared.run.RoundEnd.{RoundEnd}
 use Rattle.search.proofs.RoundByIndex.{counts}
 use Rattle.search.proofs.Written.{matching-few, sets-after}
 
@@ -20,7 +20,7 @@ use Rattle.search.proofs.Written.{matching-few, sets-after}
 abbrev pub rounds : Bool → ℕ → ℕ → ℕ
 rounds accepted p to = cond accepted (to + 1 - p) 1
 
-module _ {last root : List ℕ} {ls : List (List ℕ)} {k end p budget m : ℕ} {at at′ : List ℕ} {r : Round} (ok : ℕ → Bool)
+module _ {last root : List ℕ} {ls : List (List ℕ)} {k end p budget m : ℕ} {at at′ : List ℕ} {r : RoundEnd} (ok : ℕ → Bool)
     (t : Turns last root ls k end p budget m at at′ r) (h : p < end) where
   pub turn-stops : r .stop ≡ true → (j : ℕ) → run last root end ok (suc j) (budget - m) p (cursors k at 0 ls) ≡ counted (counts (r .moves - m) (t .passed)) (ends p true)
   turn-stops e j = run-by last root end ok j (budget - m) p (cursors k at 0 ls) _ h (t .same) ∙ rw e
@@ -85,13 +85,13 @@ module _ (list : ℕ → List ℕ) (n k : ℕ) where
   begin-from i (t ∷ ts) fs h = rw (lt-ltb i k (omega arith), first-of n i, begin-from (suc i) ts fs (omega arith))
 
 pub begin-is : (list : ℕ → List ℕ) (rs fs : List ℕ) {k : ℕ} → k ≡ length rs → begin k (map list (rs ++ fs)) ≡ placed list required rs ++ placed list forbidden fs
-begin-is list rs fs {k} e = begin-from list 16 k 0 rs fs (omega arith)
+begin-is list rs fs {k} e = begin-from list most-cursors k 0 rs fs (omega arith)
 
-valid-first : {last : List ℕ} {ls : List (List ℕ)} → Lists last ls → Valid last ls (replicate 16 0)
+valid-first : {last : List ℕ} {ls : List (List ℕ)} → Lists last ls → Valid last ls (replicate most-cursors 0)
 valid-first v = record {
   long = refl;
   few = v .few;
-  each = λ k h. rw (first-of 16 k) (record { sound = v .each k h; within = omega arith });
+  each = λ k h. rw (first-of most-cursors k) (record { sound = v .each k h; within = omega arith });
 }
 
 -- what is listed and counted so far; the rounds left are enough, and give what is left of the whole run
@@ -116,7 +116,7 @@ pub record Listed (last root : List ℕ) (ok : ℕ → Bool) (ls : List (List �
 
 pub listed-start : {last root : List ℕ} {ok : ℕ → Bool} {ls : List (List ℕ)} {k end budget start : ℕ} {out : List ℕ} → Tables last root → length last ≤ length out
     → Lists last ls → 1 ≤ start → 1 ≤ end → end ≤ length last + 1 → start < 4294967296
-    → Listed last root ok ls k end budget start out (replicate 16 0) out start 0 0
+    → Listed last root ok ls k end budget start out (replicate most-cursors 0) out start 0 0
 listed-start {ls} {k} {end} {budget} t o v h i w f =
     let u : budget - 0 ≡ budget = omega arith in
     record {
@@ -145,18 +145,18 @@ module _ {last root : List ℕ} {ok : ℕ → Bool} {ls : List (List ℕ)} {k en
 
   listed-ends : (p m s : ℕ) (short : Bool) → counted (counts moves (a .passed)) (led (a .listed) (run last root end ok (a .more) (budget - moves) position (cursors k at 0 ls)))
       ≡ record { listed = a .listed; position = p; counts = counts m s; short = short }
-      → Ends whole out₀ out (record { count = count; position = p; moves = m })
+      → RunGives whole out₀ out (record { count = count; position = p; moves = m })
   listed-ends p m s short e =
       rw (a .same ∙ e) (record { written = rw (a .long) (a .written); count = sym (a .long); position = refl; moves = refl })
 
-  pub listed-over : end ≤ position → Ends whole out₀ out (record { count = count; position = end; moves = moves })
+  pub listed-over : end ≤ position → RunGives whole out₀ out (record { count = count; position = end; moves = moves })
   listed-over h =
       listed-ends end moves (a .passed) false
       (ap (λ x. counted (counts moves (a .passed)) (led (a .listed) x)) (run-over last root end ok (a .more) (budget - moves) position (cursors k at 0 ls) (a .some) h)
       ∙ end-same (append-nil (a .listed)) (omega arith) (omega arith))
 
-  module _ (h : position < end) {at′ : List ℕ} {t : Round} (v : Turns last root ls k end position budget moves at at′ t) where
-    pub listed-stops : t .stop ≡ true → Ends whole out₀ out (record { count = count; position = position; moves = t .moves })
+  module _ (h : position < end) {at′ : List ℕ} {t : RoundEnd} (v : Turns last root ls k end position budget moves at at′ t) where
+    pub listed-stops : t .stop ≡ true → RunGives whole out₀ out (record { count = count; position = position; moves = t .moves })
     listed-stops e =
         let q : a .more ≡ suc (a .more - 1) = omega (arith, a .some) in
         listed-ends position (t .moves) (a .passed + v .passed) true

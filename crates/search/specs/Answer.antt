@@ -9,7 +9,8 @@ use Rattle.index.specs.Index as indexes
 use Rattle.index.specs.Index.{Index, list-of}
 use Rattle.steps.specs.Matching.{Criteria}
 use Rattle.steps.specs.Steps.{End, steps}
-use Rattle.query.specs.Query.{required, forbidden, in-range, query-refusal}
+use Rattle.query.specs.Query.{used, in-range}
+use Rattle.query.specs.Refusals.{query-refusal}
 use Rattle.query.specs.declared.Query.{Query}
 use Rattle.search.specs.declared.Answer.{Answer}
 
@@ -20,8 +21,8 @@ search-refusal P I q room = otherwise (indexes.tables-refusal P I) (query-refusa
 -- what a query asks for, over a whole plant
 abbrev pub criteria : Plant → Query → Criteria
 criteria P q = record {
-  required = required q;
-  forbidden = forbidden q;
+  required = used (q .required);
+  forbidden = used (q .forbidden);
   ok = λ d. in-range (q .levels) (entry (P .level) d);
   start = q .start;
   end = size P + 1;

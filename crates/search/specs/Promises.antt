@@ -1,17 +1,27 @@
--- What is promised of an accepted query's answer (demands 2 and 3).
+-- What a search gives, and what is promised of it where it is not refused (demands 2 and 3).
 use Prim.Native.Nat.{ℕ}
+use mathlib.Core.Path.{_≡_}
 use mathlib.Core.Bool.{Bool}
 use mathlib.Core.List.{List}
+use lib.ListN.{length, take}
 use Rattle.plant.specs.Plant.{Plant}
 use Rattle.index.specs.Index.{Index, list-of}
-use Rattle.steps.specs.Promises.{Kept}
+use Rattle.steps.specs.Promises.{ListsExactly, KeepsBudget}
 use Rattle.query.specs.declared.Query.{Query}
-use Rattle.search.specs.Answer.{criteria}
+use Rattle.search.specs.Answer.{criteria, answer, answer-list}
+use Rattle.search.specs.declared.Answer.{Answer}
 
--- the devices listed, the position and the moves are those of a run of which all that is promised of the cursor steps holds. What its moves
--- passed over and whether it is short are not told.
+-- what matches is listed, and the position and the moves are those of a run that keeps its budget. What its moves passed over and whether it is
+-- short are not told.
 pub record Promised (P : Plant) (I : Index) (q : Query) (listed : List ℕ) (position moves : ℕ) : Type 0 where
+  pub lists : ListsExactly (P .last) (list-of I) (criteria P q) listed position
   pub passed : ℕ
   pub short : Bool
-  pub kept : Kept (P .last) (P .root) (list-of I) (criteria P q) (q .budget)
+  pub budget : KeepsBudget (P .last) (P .root) (list-of I) (criteria P q) (q .budget)
       (record { listed = listed; position = position; counts = record { moves = moves; passed = passed }; short = short })
+
+-- r and the answer list, which was `out`
+pub record Searched (P : Plant) (I : Index) (q : Query) (out out′ : List ℕ) (r : Answer) : Type 0 where
+  pub answers : r ≡ answer P I q (length out)
+  pub lists : out′ ≡ answer-list P I q out
+  pub promised : r .refusal ≡ 0 → Promised P I q (take (r .count) out′) (r .position) (r .moves)

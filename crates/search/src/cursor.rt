@@ -45,7 +45,7 @@ fn target(last: &[u16], root: &[u16], p: u32, q: u32) -> u32
 
 // A cursor brought to a position: its index, the moves made so far, whether its posting carries to the position, and the last position up to
 // which that stays so without a move; or that the next move would exceed the budget.
-pub struct Brought {
+pub struct CursorAt {
     pub at: usize,
     pub moves: usize,
     pub carries: bool,
@@ -53,10 +53,10 @@ pub struct Brought {
     pub spent: bool,
 }
 
-fn stays(at: usize, moves: usize, carries: bool, to: u32) -> Brought
+fn stays(at: usize, moves: usize, carries: bool, to: u32) -> CursorAt
     ensures { λ r. ⌜ r ≡ record { at = at; moves = moves; carries = carries; to = to; spent = false } ⌝ }
 {
-    Brought {
+    CursorAt {
         at,
         moves,
         carries,
@@ -75,7 +75,7 @@ pub fn bring(
     end: u32,
     budget: u32,
     made: usize,
-) -> Brought
+) -> CursorAt
     requires { ⌜ Tables (now last) (now root) × Cursor (now last) (now list) from × IsEntry (now last) p × (p < end) × (end ≤ length (now last) + 1) × (made ≤ budget) ⌝ }
     ensures { λ r. ⌜ Brings (now (last .entry)) (now (root .entry)) (now (list .entry)) end p budget made from r ⌝ }
 {
@@ -93,7 +93,7 @@ pub fn bring(
             return stays(at, moves, true, reached);
         }
         if most <= moves {
-            return Brought {
+            return CursorAt {
                 at,
                 moves,
                 carries: false,

@@ -1,10 +1,7 @@
 // The search: the devices that match a query, by document 01's cursor steps.
-ghost use mathlib.Core.Path.{_≡_};
-ghost use lib.ListN.{length, take};
 ghost use Rattle.plant.specs.Plant.{plant};
 ghost use Rattle.index.specs.Index.{index};
-ghost use Rattle.search.specs.Answer.{answer, answer-list};
-ghost use Rattle.search.specs.Promises.{Promised};
+ghost use Rattle.search.specs.Promises.{Searched};
 use lists::answered;
 use query::Query;
 use refusals::refusal;
@@ -34,9 +31,10 @@ pub fn search(
     query: Query,
     out: &mut [u16],
 ) -> Answer
-    ensures { λ r. ⌜ r ≡ answer (plant (now (last .entry)) (now (root .entry)) (now (level .entry))) (index (now (terms .entry)) (now (starts .entry)) (now (postings .entry))) query (length (now (out .entry))) ⌝ }
-    ensures { λ r. ⌜ now (out .exit) ≡ answer-list (plant (now (last .entry)) (now (root .entry)) (now (level .entry))) (index (now (terms .entry)) (now (starts .entry)) (now (postings .entry))) query (now (out .entry)) ⌝ }
-    ensures { λ r. ⌜ (r .refusal ≡ 0 → Promised (plant (now (last .entry)) (now (root .entry)) (now (level .entry))) (index (now (terms .entry)) (now (starts .entry)) (now (postings .entry))) query (take (r .count) (now (out .exit))) (r .position) (r .moves)) ⌝ }
+    ensures { λ r. ⌜ Searched
+        (plant (now (last .entry)) (now (root .entry)) (now (level .entry)))
+        (index (now (terms .entry)) (now (starts .entry)) (now (postings .entry)))
+        query (now (out .entry)) (now (out .exit)) r ⌝ }
 {
     let refused = refusal(last, root, level, terms, starts, postings, query, out.len());
     if refused != 0 {

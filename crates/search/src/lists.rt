@@ -1,13 +1,12 @@
 // The run of an accepted query: its lists are looked up, and the cursors go along them.
 ghost use mathlib.Core.Path.{_≡_};
 ghost use mathlib.Core.Bool.{false};
-ghost use mathlib.Core.List.{map, _++_};
 ghost use Prim.Native.Nat.{_+_, _≤_};
-ghost use lib.ListN.{length, take};
+ghost use lib.ListN.{length};
 ghost use Rattle.laws.specs.Search.{any};
 ghost use Rattle.plant.specs.Plant.{plant};
-ghost use Rattle.index.specs.Index.{index, count, misplaced-term, list-of};
-ghost use Rattle.search.specs.inner.Cursors.{Ends};
+ghost use Rattle.index.specs.Index.{index, misplaced-term};
+ghost use Rattle.search.specs.inner.Cursors.{most-cursors, Gathers, RunGives};
 ghost use Rattle.search.specs.Answer.{search-refusal, ended};
 use crate::run::Listing;
 use crate::run::run;
@@ -23,10 +22,11 @@ fn gather<'a>(
     lists: &mut [&'a [u32]; 16],
     first: usize,
 )
-    requires { ⌜ (first + length (now named) ≤ 16) × (length (now lists) ≡ 16) ⌝ }
-    requires { ⌜ any (count (index (now terms) (now starts) (now postings))) (misplaced-term (index (now terms) (now starts) (now postings))) ≡ false ⌝ }
-    ensures { λ _. ⌜ length (now (lists .exit)) ≡ 16 ⌝ }
-    ensures { λ _. ⌜ take (first + length (now (named .entry))) (map now (now (lists .exit))) ≡ take first (map now (now (lists .entry))) ++ map (list-of (index (now (terms .entry)) (now (starts .entry)) (now (postings .entry)))) (now (named .entry)) ⌝ }
+    requires { ⌜ (first + length (now named) ≤ most-cursors) × (length (now lists) ≡ most-cursors) ⌝ }
+    requires { ⌜ any (length (now terms)) (misplaced-term (index (now terms) (now starts) (now postings))) ≡ false ⌝ }
+    ensures { λ _. ⌜ Gathers
+        (index (now (terms .entry)) (now (starts .entry)) (now (postings .entry)))
+        (now (named .entry)) first (now (lists .entry)) (now (lists .exit)) ⌝ }
 {
     let mut i = 0;
     while i < named.len() {
@@ -48,20 +48,30 @@ pub fn answered(
     query: Query,
     out: &mut [u16],
 ) -> Listing
-    requires { ⌜ search-refusal (plant (now last) (now root) (now level)) (index (now terms) (now starts) (now postings)) query (length (now out)) ≡ 0 ⌝ }
-    ensures { λ r. ⌜ Ends (ended (plant (now (last .entry)) (now (root .entry)) (now (level .entry))) (index (now (terms .entry)) (now (starts .entry)) (now (postings .entry))) query (query .budget)) (now (out .entry)) (now (out .exit)) r ⌝ }
+    requires { ⌜ search-refusal
+        (plant (now last) (now root) (now level))
+        (index (now terms) (now starts) (now postings))
+        query (length (now out)) ≡ 0 ⌝ }
+    ensures { λ r. ⌜ RunGives
+        (ended
+        (plant (now (last .entry)) (now (root .entry)) (now (level .entry)))
+        (index (now (terms .entry)) (now (starts .entry)) (now (postings .entry)))
+        query (query .budget))
+        (now (out .entry)) (now (out .exit)) r ⌝ }
 {
     let none = &postings[0..0];
     let mut lists = [none; 16];
     let required = query.required;
-    let required_count = query.required_count;
+    let required_places = required.places;
+    let required_count = required.count;
     let forbidden = query.forbidden;
-    let forbidden_count = query.forbidden_count;
+    let forbidden_places = forbidden.places;
+    let forbidden_count = forbidden.count;
     gather(
         terms,
         starts,
         postings,
-        &required[..required_count],
+        &required_places[..required_count],
         &mut lists,
         0,
     );
@@ -69,7 +79,7 @@ pub fn answered(
         terms,
         starts,
         postings,
-        &forbidden[..forbidden_count],
+        &forbidden_places[..forbidden_count],
         &mut lists,
         required_count,
     );

@@ -16,7 +16,10 @@ pub fn refusal(
     query: Query,
     room: usize,
 ) -> u32
-    ensures { λ r. ⌜ r ≡ search-refusal (plant (now (last .entry)) (now (root .entry)) (now (level .entry))) (index (now (terms .entry)) (now (starts .entry)) (now (postings .entry))) query room ⌝ }
+    ensures { λ r. ⌜ r ≡ search-refusal
+        (plant (now (last .entry)) (now (root .entry)) (now (level .entry)))
+        (index (now (terms .entry)) (now (starts .entry)) (now (postings .entry)))
+        query room ⌝ }
 {
     let refused = index::check(last, root, level, terms, starts, postings);
     if refused != 0 {

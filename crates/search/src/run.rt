@@ -1,6 +1,6 @@
 // The rounds of a run: one round, the devices that it lists, all rounds.
 ghost use mathlib.Core.Path.{_≡_};
-ghost use Prim.Native.Nat.{_+_, _≤_, _<_, min};
+ghost use Prim.Native.Nat.{_+_, _≤_, _<_};
 ghost use mathlib.Core.Bool.{cond};
 ghost use mathlib.Core.List.{map};
 ghost use lib.ListN.{length, set};
@@ -8,35 +8,30 @@ ghost use Rattle.laws.specs.Tables.{entry};
 ghost use Rattle.laws.specs.inner.Entries.{IsEntry};
 ghost use Rattle.steps.specs.Steps.{run};
 ghost use Rattle.query.specs.Query.{in-range};
-ghost use Rattle.search.specs.inner.Cursors.{Tables, Valid, Turns, Lists, Writes, Ends, begin};
+ghost use Rattle.search.specs.inner.Cursors.{Tables, Valid, Turns, Lists, Writes, RunGives, begin};
 use crate::cursor::bring;
+use integers::least_u32;
 use query::Levels;
 use query::in_range;
 
 // How a round at a position p ends: every cursor accepts each position from p to `to`; or the position is set to the one after `to`; or the
 // next move would exceed the budget. The moves made so far.
-pub struct Round {
+pub struct RoundEnd {
     pub moves: usize,
     pub to: u32,
     pub accepted: bool,
     pub stop: bool,
 }
 
-fn round_of(moves: usize, to: u32, accepted: bool, stop: bool) -> Round
+fn round_of(moves: usize, to: u32, accepted: bool, stop: bool) -> RoundEnd
     ensures { λ r. ⌜ r ≡ record { moves = moves; to = to; accepted = accepted; stop = stop } ⌝ }
 {
-    Round {
+    RoundEnd {
         moves,
         to,
         accepted,
         stop,
     }
-}
-
-fn least(a: u32, b: u32) -> u32
-    ensures { λ r. ⌜ r ≡ min a b ⌝ }
-{
-    if a < b { a } else { b }
 }
 
 // One round at position p, where `made` moves have been made of a budget. Cursor k is at index positions[k] of lists[k]; the first `required`
@@ -51,8 +46,9 @@ fn pass(
     end: u32,
     budget: u32,
     made: usize,
-) -> Round
-    requires { ⌜ Tables (now last) (now root) × IsEntry (now last) p × (p < end) × (end ≤ length (now last) + 1) × Valid (now last) (map now (now lists)) (now positions) × (made ≤ budget) ⌝ }
+) -> RoundEnd
+    requires { ⌜ Tables (now last) (now root) × IsEntry (now last) p × (p < end) × (end ≤ length (now last) + 1)
+        × Valid (now last) (map now (now lists)) (now positions) × (made ≤ budget) ⌝ }
     ensures { λ r. ⌜ Turns (now (last .entry)) (now (root .entry)) (map now (now (lists .entry))) required end p budget made (now (positions .entry)) (now (positions .exit)) r ⌝ }
 {
     let mut moves = made;
@@ -72,7 +68,7 @@ fn pass(
         if brought.carries != asked {
             return round_of(moves, brought.to, false, false);
         }
-        to = least(brought.to, to);
+        to = least_u32(brought.to, to);
         i += 1;
     }
     round_of(moves, to, true, false)
@@ -154,9 +150,13 @@ pub fn run(
     budget: u32,
     out: &mut [u16],
 ) -> Listing
-    requires { ⌜ Tables (now last) (now root) × (length (now level) ≡ length (now last)) × (length (now last) ≤ length (now out)) × (1 ≤ start) × (1 ≤ end) × (end ≤ length (now last) + 1) ⌝ }
+    requires { ⌜ Tables (now last) (now root) × (length (now level) ≡ length (now last)) × (length (now last) ≤ length (now out))
+        × (1 ≤ start) × (1 ≤ end) × (end ≤ length (now last) + 1) ⌝ }
     requires { ⌜ Lists (now last) (map now (now lists)) ⌝ }
-    ensures { λ r. ⌜ Ends (run (now (last .entry)) (now (root .entry)) end (λ d. in-range levels (entry (now (level .entry)) d)) end budget start (begin required (map now (now (lists .entry))))) (now (out .entry)) (now (out .exit)) r ⌝ }
+    ensures { λ r. ⌜ RunGives
+        (run (now (last .entry)) (now (root .entry)) end (λ d. in-range levels (entry (now (level .entry)) d)) end budget start
+        (begin required (map now (now (lists .entry)))))
+        (now (out .entry)) (now (out .exit)) r ⌝ }
 {
     let mut positions = [0; 16];
     let mut position = start;

@@ -5,7 +5,7 @@ pub mod Rounds
 pub mod Matching
 pub mod Runs
 pub mod Exact
-pub mod Kept
+pub mod Promises
 pub mod Example
 pub mod ByIndex
 pub mod Stretch

@@ -1,4 +1,4 @@
--- What is promised of the cursor steps (demands 2 and 3).
+-- What is promised of the cursor steps: demand 2, of what is listed, and demand 3, of moves and budget.
 use Prim.Native.Nat.{ℕ, _+_, _-_, _≤_, _<_}
 use mathlib.Core.Path.{_≡_}
 use mathlib.Core.Bool.{true}
@@ -8,12 +8,14 @@ use lib.Dec.{ltb}
 use Rattle.steps.specs.Matching.{Criteria, matches, matching}
 use Rattle.steps.specs.Steps.{End, steps, named}
 
--- of a run for criteria a with a budget, which ends so
-pub record Kept (last root : List ℕ) (list : ℕ → List ℕ) (a : Criteria) (budget : ℕ) (e : End) : Type 0 where
-  -- the listing is exactly the matching devices from the start up to the position, lowest first
-  pub exact : e .listed ≡ matching (matches last list a) (e .position - a .start) (a .start)
-  pub from-start : a .start ≤ e .position
-  pub to-end : e .position ≤ a .end
+-- for criteria a, the listing is exactly the matching devices from the start up to the position, lowest first
+pub record ListsExactly (last : List ℕ) (list : ℕ → List ℕ) (a : Criteria) (listed : List ℕ) (position : ℕ) : Type 0 where
+  pub exact : listed ≡ matching (matches last list a) (position - a .start) (a .start)
+  pub from-start : a .start ≤ position
+  pub to-end : position ≤ a .end
+
+-- a run for criteria a with a budget, which ends so, keeps its budget and stops for want of a move alone
+pub record KeepsBudget (last root : List ℕ) (list : ℕ → List ℕ) (a : Criteria) (budget : ℕ) (e : End) : Type 0 where
   -- the moves never exceed the budget, and with the postings that they passed over never the postings of the lists named
   pub within : e .counts .moves ≤ budget
   pub few : e .counts .moves + e .counts .passed ≤ named list a

@@ -24,7 +24,7 @@ count-fits : (c : tie.After-search) → c .search .result .count ≤ length (c .
 count-fits c =
     let z = c .before .before .before .before .before .before .before .before in
     let q = z .args .query in
-    run-count (c .search .result) (search-refusal (P z) (I z) q 1024) (ended (P z) (I z) q (q .budget)) _ _ (c .search .ensures .0) (c .search .ensures .1 .0)
+    run-count (c .search .result) (search-refusal (P z) (I z) q 1024) (ended (P z) (I z) q (q .budget)) _ _ (c .search .ensures .answers) (c .search .ensures .lists)
 
 returns : tie.Need-returns
 returns c =
@@ -32,7 +32,7 @@ returns c =
     let z = c .before .before .before .before .before .before .before .before .before .before .before .before .before in
     let q = z .args .query in (
       puts-as (c .put-numbered .ensures .0)
-          (run-refused (s .search .result) (search-refusal (P z) (I z) q 1024) (ended (P z) (I z) q (q .budget)) (s .search .ensures .0) (c .before .before .before .if1 .taken)),
+          (run-refused (s .search .result) (search-refusal (P z) (I z) q 1024) (ended (P z) (I z) q (q .budget)) (s .search .ensures .answers) (c .before .before .before .if1 .taken)),
       c .put-numbered .ensures .1,
     )
 
@@ -42,7 +42,7 @@ returns-2 c =
     let z = c .before .before .before .before .before .before .before .before .before .before .before .before .before .before in
     let q = z .args .query in (
       puts-as (c .put-answer .ensures .0)
-          (run-listed (s .search .result) (search-refusal (P z) (I z) q 1024) (ended (P z) (I z) q (q .budget)) _ _ (s .search .ensures .0) (s .search .ensures .1 .0)
+          (run-listed (s .search .result) (search-refusal (P z) (I z) q 1024) (ended (P z) (I z) q (q .budget)) _ _ (s .search .ensures .answers) (s .search .ensures .lists)
           (c .before .before .before .before .if1 .left)),
       c .put-answer .ensures .1,
     )

@@ -2,31 +2,32 @@
 use Prim.Native.Nat.{ℕ, suc, _+_, _-_, _≤_, _<_}
 use mathlib.Core.Path.{_≡_}
 use mathlib.Core.Bool.{Bool, true, false, cond}
-use mathlib.Core.List.{List, [], _∷_, _++_}
+use mathlib.Core.List.{List, [], _∷_, _++_, map}
 use lib.Dec.{ltb}
-use lib.ListN.{length, getD, drop, replicate}
+use denote.Ref.{RefT, now}
+use lib.ListN.{length, getD, take, drop, replicate}
 use lib.Seq.{sets}
 use Rattle.laws.specs.Tables.{entry}
 use Rattle.laws.specs.inner.Entries.{IsEntry}
-use Rattle.index.specs.Postings.{device}
+use Rattle.index.specs.Index.{Index, list-of}
+use Rattle.index.specs.inner.Lists.{SoundList}
 use Rattle.steps.specs.Moves as steps
 use Rattle.steps.specs.Moves.{behind}
 use Rattle.steps.specs.Steps as runs
 use Rattle.steps.specs.Steps.{Side, required, forbidden, Outcome, accepts, again, stops}
 use Rattle.steps.specs.Matching.{matching}
 use Rattle.steps.proofs.Stretch.{Rests, Accept}
-use Rattle.search.specs.declared.cursor.Brought.{Brought}
-use Rattle.search.specs.declared.run.Round.{Round}
+use Rattle.search.specs.declared.cursor.CursorAt.{CursorAt}
+use Rattle.search.specs.declared.run.RoundEnd.{RoundEnd}
 use Rattle.search.specs.declared.run.Listing.{Listing}
 
--- each posting of a list is of a device, and devices do not fall
-pub record Sound (last l : List ℕ) : Type 0 where
-  pub devices : (k : ℕ) → k < length l → IsEntry last (device (getD l k 0))
-  pub sorted : (j k : ℕ) → j ≤ k → k < length l → device (getD l j 0) ≤ device (getD l k 0)
+-- "Up to 8 needed and 8 barred marks": one cursor for each
+abbrev pub most-cursors : ℕ
+most-cursors = 16
 
 -- a cursor at an index of a sound list: it stands for what is left of the list
 pub record Cursor (last l : List ℕ) (i : ℕ) : Type 0 where
-  pub sound : Sound last l
+  pub sound : SoundList last l
   pub within : i ≤ length l
 
 -- device tables that cursors go by: a branch ends in the plant
@@ -36,7 +37,7 @@ pub record Tables (last root : List ℕ) : Type 0 where
   pub inside : (d : ℕ) → IsEntry last d → entry last d ≤ length last
 
 -- the cursor at index f has been brought to position p, after m moves of a budget
-pub record Brings (last root l : List ℕ) (end p budget m f : ℕ) (r : Brought) : Type 0 where
+pub record Brings (last root l : List ℕ) (end p budget m f : ℕ) (r : CursorAt) : Type 0 where
   pub within : r .at ≤ length l
   pub more : m ≤ r .moves
   pub few : r .moves ≤ budget
@@ -55,17 +56,17 @@ cursors k at i [] = []
 cursors k at i (l ∷ ls) = record { side = side-of k i; left = drop (getD at i 0) l } ∷ cursors k at (suc i) ls
 
 pub record Valid (last : List ℕ) (ls : List (List ℕ)) (at : List ℕ) : Type 0 where
-  pub long : length at ≡ 16
-  pub few : length ls ≤ 16
+  pub long : length at ≡ most-cursors
+  pub few : length ls ≤ most-cursors
   pub each : (k : ℕ) → k < length ls → Cursor last (getD ls k []) (getD at k 0)
 
 -- what the code's round says
-abbrev pub said : Round → Outcome
+abbrev pub said : RoundEnd → Outcome
 said r = cond (r .stop) stops (cond (r .accepted) accepts (again (r .to + 1)))
 
 -- a round has been made at position p, after m moves of a budget: the cursors go from `at` to `at′`. The code does not count what its moves passed
 -- over. Where all accept p, they do at each position up to the round's last.
-pub record Turns (last root : List ℕ) (ls : List (List ℕ)) (k end p budget m : ℕ) (at at′ : List ℕ) (r : Round) : Type 0 where
+pub record Turns (last root : List ℕ) (ls : List (List ℕ)) (k end p budget m : ℕ) (at at′ : List ℕ) (r : RoundEnd) : Type 0 where
   pub valid : Valid last ls at′
   pub passed : ℕ
   pub more : m ≤ r .moves
@@ -77,14 +78,19 @@ pub record Turns (last root : List ℕ) (ls : List (List ℕ)) (k end p budget m
   pub inside : r .accepted ≡ true → r .to < end
   pub steady : r .accepted ≡ true → (q : ℕ) → p ≤ q → q ≤ r .to → Accept last end q (cursors k at′ 0 ls)
 
--- lists that cursors go along: eight at most of required terms, and eight of forbidden ones
+-- lists that cursors go along
 pub record Lists (last : List ℕ) (ls : List (List ℕ)) : Type 0 where
-  pub few : length ls ≤ 16
-  pub each : (k : ℕ) → k < length ls → Sound last (getD ls k [])
+  pub few : length ls ≤ most-cursors
+  pub each : (k : ℕ) → k < length ls → SoundList last (getD ls k [])
+
+-- from index f on, an array of slices has been set to the lists of the terms that are named; those before are kept
+pub record Gathers (I : Index) (named : List ℕ) (f : ℕ) (slices slices′ : List (RefT (List ℕ))) : Type 0 where
+  pub long : length slices′ ≡ most-cursors
+  pub same : take (f + length named) (map now slices′) ≡ take f (map now slices) ++ map (list-of I) named
 
 -- where a run begins: each cursor on the first posting of its list
 abbrev pub begin : ℕ → List (List ℕ) → List runs.Cursor
-begin k ls = cursors k (replicate 16 0) 0 ls
+begin k ls = cursors k (replicate most-cursors 0) 0 ls
 
 -- what is listed of the positions from p to `to`, where they are accepted
 abbrev pub stretch : Bool → (ℕ → Bool) → ℕ → ℕ → List ℕ
@@ -96,7 +102,7 @@ pub record Writes (accepted : Bool) (ok : ℕ → Bool) (p to : ℕ) (out out′
   pub long : count′ ≡ count + length (stretch accepted ok p to)
 
 -- a run's end, as the code gives it: the listing stands at the front of what was lent, and the rest of that is kept
-pub record Ends (e : runs.End) (out out′ : List ℕ) (r : Listing) : Type 0 where
+pub record RunGives (e : runs.End) (out out′ : List ℕ) (r : Listing) : Type 0 where
   pub written : out′ ≡ e .listed ++ drop (length (e .listed)) out
   pub count : r .count ≡ length (e .listed)
   pub position : r .position ≡ e .position

@@ -7,7 +7,7 @@ use lib.ListN.{length, length-take}
 use borrow.Author.Needs.{needs}
 use Rattle.index.specs.Index.{Index, index}
 use Rattle.plant.specs.Plant.{Plant, plant}
-use Rattle.query.specs.Query.{required, forbidden}
+use Rattle.query.specs.Query.{used}
 use Rattle.search.proofs.Answers.{Admitted, admitted, lists-fit, begins, run-ended}
 use Rattle.search.proofs.lists.answered.Statement.{statement}
 use Rattle.search.proofs.lists.answered.Tie as tie
@@ -21,21 +21,21 @@ postings c = index (now (c .args .terms)) (now (c .args .starts)) (now (c .args 
 ready : (c : tie.Start) → Admitted (tables c) (postings c) (c .args .query) (length (now (c .args .out)))
 ready c = admitted (tables c) (postings c) (c .args .query) (length (now (c .args .out))) (c .pre)
 
-long : (c : tie.Start) → (length (c .args .query .required) ≡ 8) × (length (c .args .query .forbidden) ≡ 8)
+long : (c : tie.Start) → (length (c .args .query .required .places) ≡ 8) × (length (c .args .query .forbidden .places) ≡ 8)
 long c = (search needs, search needs)
 
 -- a query has as many terms as it says
 fit : (c : tie.Start)
-    → (c .args .query .«required_count» ≤ length (c .args .query .required)) × (c .args .query .«forbidden_count» ≤ length (c .args .query .forbidden))
-fit c = let l = long c in let r = ready c .query in (omega arith, omega arith)
+    → (c .args .query .required .count ≤ length (c .args .query .required .places)) × (c .args .query .forbidden .count ≤ length (c .args .query .forbidden .places))
+fit c = let l = long c in let r = ready c .query .query in (omega arith, omega arith)
 
 counts : (c : tie.Start)
-    → (c .args .query .«required_count» ≡ length (required (c .args .query))) × (c .args .query .«forbidden_count» ≡ length (forbidden (c .args .query)))
+    → (c .args .query .required .count ≡ length (used (c .args .query .required))) × (c .args .query .forbidden .count ≡ length (used (c .args .query .forbidden)))
 counts c = let f = fit c in (simp length-take (omega arith), simp length-take (omega arith))
 
 -- the places: the start, seen after the lists of the required terms are looked up and after those of the forbidden ones
 abbrev start : tie.After-gather → tie.Start
-start c = c .before .before .before .before .before .before .before .before .before .before .before .before .before
+start c = c .before .before .before .before .before .before .before .before .before .before .before .before .before .before .before
 
 abbrev first : tie.After-gather2 → tie.After-gather
 first c = c .before .before .before
@@ -47,9 +47,9 @@ run-requires c κs =
     let q = s .args .query in
     let r = ready s in
     let k = counts s in (
-      (r .tables, r .forest .levels, r .query .roomy, r .query .from-first, omega arith, omega arith),
-      lists-fit (postings s) (required q) (forbidden q) (first second .gather .last .1 .1 .1 .1 .0) (second .gather2 .last .1 .1 .1 .1 .0) (k .0) (k .1)
-          (first second .gather .ensures .1) (second .gather2 .ensures .1) r (r .query .few-required) (r .query .few-forbidden),
+      (r .tables, r .forest .levels, r .query .roomy, r .query .query .from-first, omega arith, omega arith),
+      lists-fit (postings s) (used (q .required)) (used (q .forbidden)) (first second .gather .last .1 .1 .1 .1 .0) (second .gather2 .last .1 .1 .1 .1 .0) (k .0) (k .1)
+          (first second .gather .ensures .same) (second .gather2 .ensures .same) r (r .query .query .few-required) (r .query .query .few-forbidden),
     )
 
 returns : tie.Need-returns
@@ -59,8 +59,8 @@ returns c =
     let q = s .args .query in
     let k = counts s in
     run-ended (tables s) (postings s) q
-    (begins (postings s) (required q) (forbidden q) (first second .gather .last .1 .1 .1 .1 .0) (second .gather2 .last .1 .1 .1 .1 .0) (k .0) (k .1)
-    (first second .gather .ensures .1) (second .gather2 .ensures .1)) (c .before .before .run .ensures)
+    (begins (postings s) (used (q .required)) (used (q .forbidden)) (first second .gather .last .1 .1 .1 .1 .0) (second .gather2 .last .1 .1 .1 .1 .0) (k .0) (k .1)
+    (first second .gather .ensures .same) (second .gather2 .ensures .same)) (c .before .before .run .ensures)
 
 pub answered-spec : {M : Type 1} → statement M
 answered-spec =
@@ -69,19 +69,19 @@ answered-spec =
     (λ c. search needs)
     (λ c. search needs)
     (λ c. search needs)
-    (λ c. fit (c .before .before .before .before .before .before .before .before .before .before) .0)
-    (λ c. counts (c .before .before .before .before .before .before .before .before .before .before .before) .0)
-    (λ c κs. let s = c .before .before .before .before .before .before .before .before .before .before .before .before in
-    let k = counts s in let r = ready s .query in ((omega arith, refl), ready s .terms))
+    (λ c. fit (c .before .before .before .before .before .before .before .before .before .before .before .before) .0)
+    (λ c. counts (c .before .before .before .before .before .before .before .before .before .before .before .before .before) .0)
+    (λ c κs. let s = c .before .before .before .before .before .before .before .before .before .before .before .before .before .before in
+    let k = counts s in let r = ready s .query .query in ((omega arith, refl), ready s .terms))
     (λ c. fit (start c) .1)
     (λ c. counts (start (c .before)) .1)
     (λ c κs. let s = start (c .before .before) in
-    let k = counts s in let r = ready s .query in ((omega arith, c .before .before .gather .ensures .0), ready s .terms))
-    (λ c. let r = ready (start (first c)) .query in record { fits = omega arith })
+    let k = counts s in let r = ready s .query .query in ((omega arith, c .before .before .gather .ensures .long), ready s .terms))
+    (λ c. let r = ready (start (first c)) .query .query in record { fits = omega arith })
     (λ c. let r = ready (start (first c)) .tables in omega arith)
     (λ c. let r = ready (start (first c)) .tables in omega arith)
-    (λ c. let r = ready (start (first c)) .query in let l = c .gather2 .ensures .0 in omega arith)
-    (λ c. let r = ready (start (first (c .before))) .query in let l = c .before .gather2 .ensures .0 in simp length-take (omega arith))
+    (λ c. let r = ready (start (first c)) .query .query in let l = c .gather2 .ensures .long in omega arith)
+    (λ c. let r = ready (start (first (c .before))) .query .query in let l = c .before .gather2 .ensures .long in simp length-take (omega arith))
     run-requires
     (λ c. search needs)
     returns)

@@ -5,7 +5,7 @@ use mathlib.Core.Path.{_≡_, refl}
 use denote.Ref.{now}
 use lib.ListN.{length, getD, length-map}
 use borrow.Author.Needs.{needs}
-use Rattle.search.proofs.RoundByIndex.{Doing, element, doing-start, in-sixteen, here, doing-stops, doing-again, doing-more, doing-ends}
+use Rattle.search.proofs.RoundByIndex.{Doing, element, doing-start, in-array, here, doing-stops, doing-again, doing-more, doing-ends}
 use Rattle.search.proofs.run.pass.Statement.{statement}
 use Rattle.search.proofs.run.pass.Tie as tie
 
@@ -53,7 +53,7 @@ loop-again : tie.Need-loop-again Inv-loop μ-loop
 loop-again c =
     let b = c .before .before .before .before in
     let t = turn b in
-    doing-more (t .before .loop .inv) (t .loop-test .taken) (b .bring .ensures) (listed t) (c .before .before .before .if1 .left) refl (c .before .if2 .left) (c .least .ensures)
+    doing-more (t .before .loop .inv) (t .loop-test .taken) (b .bring .ensures) (listed t) (c .before .before .before .if1 .left) refl (c .before .if2 .left) (c .least-u32 .ensures)
 
 pub pass-spec : {M : Type 1} → statement M
 pass-spec =
@@ -66,10 +66,10 @@ pass-spec =
     (λ c. search needs)
     (λ c. search needs)
     (λ c. search needs)
-    (λ c. search (needs, in-sixteen))
+    (λ c. search (needs, in-array))
     bring-requires
     (λ c. search needs)
-    (λ c. search (needs, in-sixteen))
+    (λ c. search (needs, in-array))
     (λ c κs. search needs)
     returns
     (λ c κs. search needs)

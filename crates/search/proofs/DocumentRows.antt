@@ -12,7 +12,8 @@ use Rattle.index.specs.Forward.{before}
 use Rattle.steps.specs.Moves.{bring}
 use Rattle.steps.specs.Matching.{count-up, unshared, member, every, matches, matching}
 use Rattle.steps.specs.Steps.{round, run}
-use Rattle.query.specs.Query.{empty}
+use Rattle.query.specs.Query.{empty, terms-of}
+use Rattle.query.specs.Refusals.{common-refusal, query-refusal}
 use Rattle.query.specs.declared.Levels.{Levels}
 use Rattle.query.specs.declared.Query.{Query}
 use Rattle.search.specs.Answer.{search-refusal, criteria, ended, answer, answer-list}
@@ -26,15 +27,8 @@ I = index (7 ∷ 9 ∷ []) (0 ∷ 2 ∷ []) (5 ∷ 10 ∷ 9 ∷ [])
 
 -- a query with these required and forbidden terms, levels and budget, from device 1 on
 abbrev pub query : List ℕ → List ℕ → Levels → ℕ → Query
-query required forbidden levels budget = record {
-  required = required ++ replicate (8 - length required) 0;
-  «required_count» = length required;
-  forbidden = forbidden ++ replicate (8 - length forbidden) 0;
-  «forbidden_count» = length forbidden;
-  levels = levels;
-  start = 1;
-  budget = budget;
-}
+query required forbidden levels budget =
+    record { required = terms-of required; forbidden = terms-of forbidden; levels = levels; start = 1; budget = budget }
 
 abbrev pub most : ℕ
 most = empty .budget
@@ -57,7 +51,7 @@ pub rows :
     × Row (query [] (8 ∷ []) Levels.Any most) (1 ∷ 2 ∷ 3 ∷ 4 ∷ 5 ∷ 6 ∷ []) 7 0
     × Row (query (7 ∷ []) (7 ∷ []) Levels.Any most) [] 7 3
     × Row (query [] [] (Levels.Range 0 254) most) (1 ∷ 2 ∷ 4 ∷ 5 ∷ 6 ∷ []) 7 0
-unfolding plants.plant-refusal indexes.tables-refusal search-refusal ended run round bring before any lowest matching every member unshared count-up
+unfolding plants.plant-refusal indexes.tables-refusal common-refusal query-refusal search-refusal terms-of ended run round bring before any lowest matching every member unshared count-up
 rows = (
   record { answers = refl; lists = refl; exact = refl },
   record { answers = refl; lists = refl; exact = refl },

@@ -12,7 +12,7 @@ use Rattle.plant.proofs.Forest.{Sound}
 use Rattle.index.proofs.Accepted.{Rising}
 use Rattle.steps.specs.Matching.{Criteria, matches}
 use Rattle.steps.specs.Steps.{End, run, cursors, steps, named}
-use Rattle.steps.specs.Promises.{Kept}
+use Rattle.steps.specs.Promises.{ListsExactly, KeepsBudget}
 use Rattle.steps.proofs.Matching.{matching-same, matching-has, matching-of}
 use Rattle.steps.proofs.Counts.{Ended, ended, fuel, run-alike}
 use Rattle.steps.proofs.Runs.{lists}
@@ -46,14 +46,20 @@ module _ (P : Plant) (S : Sound P) (list : ℕ → List ℕ) (rise : (t : ℕ) �
       (λ g. cases (alike (named list a) budget g) (λ s. inl (sym s)) (λ s. absurd (true≢false (sym (s .0) ∙ complete (named list a) (omega flags)))))
       (λ g. let e : budget ≡ named list a = omega flags in inl (ap go e)))
 
-  pub kept : (budget : ℕ) → Kept (P .last) (P .root) list a budget (go budget)
-  kept budget =
+  pub lists-exactly : (budget : ℕ) → ListsExactly (P .last) list a (go budget .listed) (go budget .position)
+  lists-exactly budget =
       let R = from-start budget in
       record {
         exact = lists P S (a .end) in-plant (a .ok) (a .end) budget (a .start) (cursors list a) lo (cursors-rise (size P) list rise a) (omega flags) (omega flags)
             ∙ matching-same _ _ _ _ (λ d k l. matches-wanted (P .last) list a d);
         from-start = omega (flags, R .least);
         to-end = R .most;
+      }
+
+  pub keeps-budget : (budget : ℕ) → KeepsBudget (P .last) (P .root) list a budget (go budget)
+  keeps-budget budget =
+      let R = from-start budget in
+      record {
         within = R .within;
         few = R .few;
         stopped = R .stopped;
@@ -70,9 +76,9 @@ module _ (P : Plant) (S : Sound P) (list : ℕ → List ℕ) (rise : (t : ℕ) �
       }
 
 -- what a listing holds: the devices from the start up to the position that match
-pub listed-has : (last root : List ℕ) (list : ℕ → List ℕ) (a : Criteria) (budget : ℕ) (e : End) → Kept last root list a budget e → (d : ℕ) →
-    List·Memᴰ d (e .listed) ↔ ((a .start ≤ d) × (d < e .position) × (matches last list a d ≡ true))
-listed-has last root list a budget e k d = (
-  (λ m. let w = matching-has (matches last list a) (e .position - a .start) (a .start) d (rw (k .exact) at m) in (w .0, omega flags, w .2)),
-  λ h. rw (k .exact) (matching-of (matches last list a) (e .position - a .start) (a .start) d (h .0) (omega flags) (h .2)),
+pub listed-has : (last : List ℕ) (list : ℕ → List ℕ) (a : Criteria) (listed : List ℕ) (position : ℕ) → ListsExactly last list a listed position → (d : ℕ) →
+    List·Memᴰ d listed ↔ ((a .start ≤ d) × (d < position) × (matches last list a d ≡ true))
+listed-has last list a listed position k d = (
+  (λ m. let w = matching-has (matches last list a) (position - a .start) (a .start) d (rw (k .exact) at m) in (w .0, omega flags, w .2)),
+  λ h. rw (k .exact) (matching-of (matches last list a) (position - a .start) (a .start) d (h .0) (omega flags) (h .2)),
 )
