@@ -25,17 +25,16 @@ use plants::{Kind, Size, KINDS};
 use random::Random;
 use std::hint::black_box;
 use time::{clock, seconds, Least, Rounds, Times};
-use ways::{few, proved_steps, Moves, Taken, Ways};
+use ways::{checks_agree, few, proved_steps, Checks, Moves, Taken, Ways};
 
 const MISSION: Size = Size(1_024, 256, 4_096);
 const LIMITS: Size = Size(65_535, 8_192, 1_048_576);
 
-/// What one plant gave; the check in seconds.
+/// What one plant gave; the checks in seconds.
 pub struct Measured {
     pub name: &'static str,
     pub size: Size,
-    pub check: f64,
-    pub plain_check: f64,
+    pub check: Checks<f64>,
     pub rows: Vec<Row>,
     pub unshared_postings: usize,
 }
@@ -69,6 +68,7 @@ fn measure(name: &'static str, size: Size, effort: Effort) -> Measured {
     let mut r = Random(7);
     let tables = plants::plant(&mut r, size);
     assert_eq!((tables.size(), tables.terms.len(), tables.postings.len()), (size.0, size.1, size.2));
+    checks_agree(&tables);
     let mut ways = Ways::new(tables);
     let kinds = KINDS.into_iter().flat_map(|k| [(k, true), (k, false)]);
     let mut asked: Vec<Asked> = kinds.map(|(kind, common)| ask(&mut r, &mut ways, kind, common, effort.queries)).collect();
@@ -82,8 +82,7 @@ fn measure(name: &'static str, size: Size, effort: Effort) -> Measured {
         Row { kind: a.kind, common: a.common, queries: times.len(), times: Times::mean(&times), moves: a.moves }
     };
     let rows = asked.into_iter().map(row).collect();
-    let (check, plain_check) = ways.checks();
-    Measured { name, size, check, plain_check, rows, unshared_postings: ways.unshared.postings() }
+    Measured { name, size, check: ways.checks(), rows, unshared_postings: ways.unshared.postings() }
 }
 
 /// Queries of a kind, over each of which all ways were found to agree.
@@ -178,6 +177,7 @@ fn count(common: bool) {
             black_box(ffi::check(black_box(&tables)));
             black_box(ffi::search(&tables, black_box(&q), &mut answer));
             black_box(plain::check(black_box(&tables)));
+            black_box(plain::check_in_two_passes(black_box(&tables)));
             black_box(plain::steps(&tables, black_box(&q), &mut answer));
         }
     }

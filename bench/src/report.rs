@@ -4,8 +4,10 @@ use crate::time::Times;
 use crate::{Growth, Measured, Row, Skip};
 use std::fmt::Write;
 
-/// The most that a call may take, in times of the plain one.
+/// The most that a call or a check may take, in times of the plain one.
 const MOST: f64 = 1.1;
+/// The most that a check may take, in times of the plain one in two passes.
+const MOST_OF_TWO_PASSES: f64 = 0.75;
 
 /// A number with commas.
 fn commas(n: usize) -> String {
@@ -45,7 +47,8 @@ fn figures(m: &Measured) -> String {
     out += &head(&["", "plain µs", "proved µs", "proved / plain"]);
     let (all, common, any) = (mean(m, None), mean(m, Some(true)), mean(m, Some(false)));
     for (name, plain, proved) in [
-        ("the check alone", m.plain_check, m.check),
+        ("the check alone", m.check.plain, m.check.proved),
+        ("the check alone, plain in two passes", m.check.two_passes, m.check.proved),
         ("the call whole, all queries", all.plain_call, all.call),
         ("the steps alone, common terms", common.plain_steps, common.steps),
         ("the steps alone, terms equally likely", any.plain_steps, any.steps),
@@ -55,7 +58,8 @@ fn figures(m: &Measured) -> String {
     for common in [true, false] {
         let how = if common { "Common terms: each is as likely as its list is long" } else { "Terms all equally likely" };
         writeln!(out, "\n{how}.").unwrap();
-        out += &head(&["query", "call, plain µs", "proved", "steps, plain µs", "proved", "unshared", "CRoaring", "SQLite"]);
+        let peers = ["unshared", "CRoaring", "CRoaring in the call", "SQLite"];
+        out += &head(&[&["query", "call, plain µs", "proved", "steps, plain µs", "proved"], &peers[..]].concat());
         for row in m.rows.iter().filter(|r| r.common == common) {
             out += &line(row.kind.0, &row.times);
         }
@@ -73,7 +77,7 @@ fn figures(m: &Measured) -> String {
 fn line(name: &str, t: &Times) -> String {
     let ratio = |seconds: f64| format!("{:.2}", seconds / t.plain_steps);
     let call = format!("{} | {:.2}", micro(t.plain_call), t.call / t.plain_call);
-    let steps = [t.steps, t.unshared, t.roaring, t.sqlite].map(ratio).join(" | ");
+    let steps = [t.steps, t.unshared, t.roaring, t.roaring_in_call, t.sqlite].map(ratio).join(" | ");
     format!("| {name} | {call} | {} | {steps} |\n", micro(t.plain_steps))
 }
 
@@ -88,7 +92,18 @@ fn terms(common: bool) -> &'static str {
 /// The goals of one plant, each with its ratio and whether it was met.
 fn goals(m: &Measured) -> String {
     let mut out = format!("\n### Goals at {}: {}\n", m.name, size(m.size));
-    let steps = ["steps, proved / CRoaring", "steps, proved / CRoaring again", "steps, proved / SQLite"];
+    out += &head(&["the check alone", "ratio", "at most", "goal"]);
+    let in_two_passes = ("proved / plain in two passes", m.check.two_passes, MOST_OF_TWO_PASSES);
+    for (name, plain, most) in [in_two_passes, ("proved / plain", m.check.plain, MOST)] {
+        let ratio = m.check.proved / plain;
+        writeln!(out, "| {name} | {ratio:.2} | {most:.2} | {} |", met(ratio, most)).unwrap();
+    }
+    let steps = [
+        "steps, proved / CRoaring in the call",
+        "steps, proved / CRoaring",
+        "steps, proved / CRoaring again",
+        "steps, proved / SQLite",
+    ];
     out += &head(&[&["query", "terms", "call, proved / plain"], &steps[..]].concat());
     for Row { kind, common, times, .. } in &m.rows {
         out += &goal(kind.0, terms(*common), times);
@@ -99,6 +114,14 @@ fn goals(m: &Measured) -> String {
     out
 }
 
+fn met(ratio: f64, most: f64) -> &'static str {
+    if ratio <= most {
+        "met"
+    } else {
+        "**missed**"
+    }
+}
+
 fn goal(query: &str, terms: &str, t: &Times) -> String {
     let against = |peer: f64| match t.steps / peer {
         r if r <= 0.0 => String::from("lost in noise"),
@@ -106,9 +129,8 @@ fn goal(query: &str, terms: &str, t: &Times) -> String {
         r => format!("{r:.2} **behind**"),
     };
     let call = t.call / t.plain_call;
-    let met = if call <= MOST { "met" } else { "**missed**" };
-    let steps = [t.roaring, t.roaring_again, t.sqlite].map(against).join(" | ");
-    format!("| {query} | {terms} | {call:.2} {met} | {steps} |\n")
+    let steps = [t.roaring_in_call, t.roaring, t.roaring_again, t.sqlite].map(against).join(" | ");
+    format!("| {query} | {terms} | {call:.2} {} | {steps} |\n", met(call, MOST))
 }
 
 /// How the check grows with the tables, and the steps with what their moves skip.

@@ -1,5 +1,6 @@
 //! All ways to answer a query over one plant: that they agree, and how long each takes.
 use crate::paper::{device_of, Query, Tables};
+use crate::random::Random;
 use crate::time::{clock, seconds, Least, Rounds, Times};
 use crate::{ffi, plain, roaring, sqlite, unshared};
 use std::hint::black_box;
@@ -7,14 +8,22 @@ use std::hint::black_box;
 pub struct Ways {
     pub tables: Tables,
     pub unshared: unshared::Unshared,
-    bitmaps: roaring::Bitmaps,
+    bitmaps: roaring::Ready,
+    in_call: roaring::InTheCall,
     database: sqlite::Database,
     answer: Vec<u16>,
     /// what reading the clock adds to a time
     clock: f64,
-    /// the check of the plant whole, proved and plain: no query changes it
-    check: Least,
-    plain_check: Least,
+    /// the check of the plant whole: no query changes it
+    check: Checks<Least>,
+}
+
+/// The check as each way makes it; `two_passes` is plain, and reads the postings twice.
+#[derive(Clone, Copy)]
+pub struct Checks<T> {
+    pub proved: T,
+    pub plain: T,
+    pub two_passes: T,
 }
 
 /// Moves of a query, with lists shared and unshared, and the devices listed.
@@ -41,6 +50,7 @@ pub struct Taken {
     plain_steps: Rounds,
     unshared: Rounds,
     roaring: Rounds,
+    roaring_in_call: Rounds,
     sqlite: Rounds,
     plain_again: Rounds,
     roaring_again: Rounds,
@@ -49,9 +59,9 @@ pub struct Taken {
 impl Taken {
     pub fn new() -> Taken {
         let (call, plain_call) = (Least::NONE, Least::NONE);
-        let [steps, plain_steps, unshared, roaring, sqlite, plain_again, roaring_again] =
+        let [steps, plain_steps, unshared, roaring, roaring_in_call, sqlite, plain_again, roaring_again] =
             std::array::from_fn(|_| Rounds::default());
-        Taken { call, plain_call, steps, plain_steps, unshared, roaring, sqlite, plain_again, roaring_again }
+        Taken { call, plain_call, steps, plain_steps, unshared, roaring, roaring_in_call, sqlite, plain_again, roaring_again }
     }
 }
 
@@ -75,10 +85,12 @@ pub fn few(t: &Tables, q: &Query) -> Tables {
 impl Ways {
     pub fn new(tables: Tables) -> Ways {
         let unshared = unshared::Unshared::new(&tables);
-        let bitmaps = roaring::Bitmaps::new(&unshared, &tables.level);
+        let bitmaps = roaring::Ready::new(&unshared, &tables.level);
+        let in_call = roaring::InTheCall::new(tables.size());
         let database = sqlite::Database::new(&unshared, &tables.level);
         let answer = vec![0; tables.size()];
-        Ways { tables, unshared, bitmaps, database, answer, clock: clock(), check: Least::NONE, plain_check: Least::NONE }
+        let check = Checks { proved: Least::NONE, plain: Least::NONE, two_passes: Least::NONE };
+        Ways { tables, unshared, bitmaps, in_call, database, answer, clock: clock(), check }
     }
 
     /// Every way gives the same listing, and the proved search the same four numbers as the plain one.
@@ -99,21 +111,25 @@ impl Ways {
         assert_eq!(&answer[..count], listing);
         let count = self.database.search(q, &mut answer);
         assert_eq!(&answer[..count], listing);
-        assert!(self.bitmaps.search(q).iter().copied().eq(listing.iter().map(|&d| d as u32)));
+        let wide: Vec<u32> = listing.iter().map(|&d| d as u32).collect();
+        assert_eq!(self.bitmaps.search(q), wide);
+        assert_eq!(self.in_call.search(&self.tables, q), wide);
+        assert_eq!(self.in_call.search(&few, q), wide);
         Moves { shared: plain.moves as u64, unshared: self.unshared.moves(q, n), listed: plain.count as u64 }
     }
 
     /// One round of the calls that check the plant whole, for one query.
     pub fn whole(&mut self, q: &Query, taken: &mut Taken) {
         let t = &self.tables;
-        self.check.of(|| ffi::check(black_box(t)));
-        self.plain_check.of(|| plain::check(black_box(t)));
+        self.check.proved.of(|| ffi::check(black_box(t)));
+        self.check.plain.of(|| plain::check(black_box(t)));
+        self.check.two_passes.of(|| plain::check_in_two_passes(black_box(t)));
         taken.call.of(|| ffi::search(t, black_box(q), &mut self.answer));
         taken.plain_call.of(|| plain::search(t, black_box(q), &mut self.answer));
     }
 
     /// One round of the steps alone. A check goes before each way, as it does in the call: all meet the same caches. Plain and
-    /// CRoaring are called again with no check between.
+    /// the ready bitmaps of CRoaring are called again with no check between.
     pub fn steps(&mut self, few: &Tables, q: &Query, taken: &mut Taken) {
         let check = || black_box(ffi::check(black_box(few)));
         taken.steps.push(proved_steps(few, q, &mut self.answer, taken.steps.len()));
@@ -125,6 +141,8 @@ impl Ways {
         check();
         taken.roaring.push(seconds(|| self.bitmaps.search(black_box(q)).len()));
         taken.roaring_again.push(seconds(|| self.bitmaps.search(black_box(q)).len()));
+        check();
+        taken.roaring_in_call.push(seconds(|| self.in_call.search(few, black_box(q)).len()));
     }
 
     /// One round of SQLite, apart since it is slow.
@@ -133,9 +151,11 @@ impl Ways {
         taken.sqlite.push(seconds(|| self.database.search(black_box(q), &mut self.answer)));
     }
 
-    /// The least seconds of a check of the plant whole, proved and plain.
-    pub fn checks(&self) -> (f64, f64) {
-        (self.check.0 - self.clock, self.plain_check.0 - self.clock)
+    /// The least seconds of a check of the plant whole.
+    pub fn checks(&self) -> Checks<f64> {
+        let Checks { proved, plain, two_passes } = self.check;
+        let [proved, plain, two_passes] = [proved, plain, two_passes].map(|least| least.0 - self.clock);
+        Checks { proved, plain, two_passes }
     }
 
     /// Seconds of one query; where the clock was read around one call, without what that added.
@@ -147,11 +167,27 @@ impl Ways {
             plain_steps: taken.plain_steps.median() - self.clock,
             unshared: taken.unshared.median() - self.clock,
             roaring: taken.roaring.median() - self.clock,
+            roaring_in_call: taken.roaring_in_call.median() - self.clock,
             sqlite: taken.sqlite.median() - self.clock,
             plain_again: taken.plain_again.median() - self.clock,
             roaring_again: taken.roaring_again.median() - self.clock,
         }
     }
+}
+
+/// The checks answer alike over the tables, and over copies in which one posting was written over: some sound, some refused.
+pub fn checks_agree(t: &Tables) {
+    let (mut r, mut copy, mut seen) = (Random(7), t.clone(), [false; 10]);
+    for round in 0..80 {
+        let k = r.below(t.postings.len() - 1) + 1;
+        let after = t.postings[k - 1] + 2;
+        copy.postings[k] = [t.postings[k], after, round % 2, 2 * t.size() as u32 + 2][round as usize % 4];
+        let plain = plain::check(&copy);
+        assert_eq!([plain::check_in_two_passes(&copy), ffi::check(&copy)], [plain; 2]);
+        seen[plain as usize] = true;
+        copy.postings[k] = t.postings[k];
+    }
+    assert!(seen[0] && seen[8] && seen[9]);
 }
 
 /// Seconds of the steps of a proved search: a search less a check. A processor learns a check that is repeated, so a search goes
