@@ -101,9 +101,9 @@ module _ (P : Plant) (I : Index) (q : Query) (room : ℕ) {t : ℕ} (e : t ≡ i
 
 -- ---- the answer
 
-told-refused : (n : ℕ) (e : End) → (n ≡ 0 → ⊥) → record { refusal = n; count = 0; position = 0; moves = 0 } ≡ answer-of n e
-told-refused zero e h = absurd (h refl)
-told-refused (suc n) e h = refl
+answer-refused : (n : ℕ) (e : End) → (n ≡ 0 → ⊥) → record { refusal = n; count = 0; position = 0; moves = 0 } ≡ answer-of n e
+answer-refused zero e h = absurd (h refl)
+answer-refused (suc n) e h = refl
 
 written-refused : (n : ℕ) (e : End) (out : List ℕ) → (n ≡ 0 → ⊥) → out ≡ written n e out
 written-refused zero e out h = absurd (h refl)
@@ -126,7 +126,7 @@ promised P I q room h =
 module _ (P : Plant) (I : Index) (q : Query) {out : List ℕ} {n : ℕ} (e : n ≡ search-refusal P I q (length out)) where
   pub searched-refused : (n ≡ 0 → ⊥) → Searched P I q out out (record { refusal = n; count = 0; position = 0; moves = 0 })
   searched-refused z = record {
-    answers = rw e (told-refused (search-refusal P I q (length out)) _ (λ o. z (e ∙ o)));
+    answers = rw e (answer-refused (search-refusal P I q (length out)) _ (λ o. z (e ∙ o)));
     lists = written-refused (search-refusal P I q (length out)) _ out (λ o. z (e ∙ o));
     promised = λ o. absurd (z o);
   }

@@ -4,6 +4,7 @@ ghost use Prim.Native.Nat.{_+_, _≤_, _<_};
 ghost use mathlib.Core.Bool.{cond};
 ghost use mathlib.Core.List.{map};
 ghost use lib.ListN.{length, set};
+ghost use Rattle.laws.specs.Limits.{most-devices};
 ghost use Rattle.laws.specs.Tables.{entry};
 ghost use Rattle.laws.specs.inner.Entries.{IsEntry};
 ghost use Rattle.steps.specs.Steps.{run};
@@ -85,7 +86,7 @@ fn wanted(level: &[u8], levels: Levels, d: u32) -> bool
 
 // Writes device d after the first `count` entries, where it is listed. Else no entry changes.
 fn put(out: &mut [u16], count: u32, d: u32, listed: bool)
-    requires { ⌜ (count < length (now out)) × (d ≤ 65535) × (count < 65535) ⌝ }
+    requires { ⌜ (count < length (now out)) × (d ≤ most-devices) × (count < most-devices) ⌝ }
     ensures { λ _. ⌜ now (out .exit) ≡ cond listed (set (now (out .entry)) count d) (now (out .entry)) ⌝ }
 {
     if listed {
@@ -96,7 +97,7 @@ fn put(out: &mut [u16], count: u32, d: u32, listed: bool)
 
 // One more, where there is another.
 fn more(count: u32, another: bool) -> u32
-    requires { ⌜ count < 65535 ⌝ }
+    requires { ⌜ count < most-devices ⌝ }
     ensures { λ r. ⌜ r ≡ cond another (count + 1) count ⌝ }
 {
     if another { count + 1 } else { count }
@@ -112,7 +113,7 @@ fn list(
     out: &mut [u16],
     count: u32,
 ) -> u32
-    requires { ⌜ (count < from) × (from ≤ to) × (to ≤ length (now level)) × (length (now level) ≤ length (now out)) × (length (now level) ≤ 65535) ⌝ }
+    requires { ⌜ (count < from) × (from ≤ to) × (to ≤ length (now level)) × (length (now level) ≤ length (now out)) × (length (now level) ≤ most-devices) ⌝ }
     ensures { λ r. ⌜ Writes accepted (λ d. in-range levels (entry (now (level .entry)) d)) from to (now (out .entry)) (now (out .exit)) count r ⌝ }
 {
     if accepted {

@@ -7,6 +7,7 @@ use lib.Dec.{ltb}
 use denote.Ref.{RefT, now}
 use lib.ListN.{length, getD, take, drop, replicate}
 use lib.Seq.{sets}
+use Rattle.laws.specs.Limits.{most-devices}
 use Rattle.laws.specs.Tables.{entry}
 use Rattle.laws.specs.inner.Entries.{IsEntry}
 use Rattle.index.specs.Index.{Index, list-of}
@@ -33,7 +34,7 @@ pub record Cursor (last l : List ℕ) (i : ℕ) : Type 0 where
 -- device tables that cursors go by: a branch ends in the plant
 pub record Tables (last root : List ℕ) : Type 0 where
   pub same : length root ≡ length last
-  pub few : length last ≤ 65535
+  pub few : length last ≤ most-devices
   pub inside : (d : ℕ) → IsEntry last d → entry last d ≤ length last
 
 -- the cursor at index f has been brought to position p, after m moves of a budget
