@@ -11,7 +11,6 @@ use Rattle.laws.proofs.Tests.{tests, and-yes, or-yes, not-no, eqb-yes}
 use Rattle.laws.proofs.Cases.{either, split-cond}
 use Rattle.laws.proofs.Rows.{pick-none}
 use Rattle.plant.specs.Plant.{Plant, size}
-use Rattle.index.specs.Postings.{device}
 use Rattle.index.specs.Index.{Index, index, count}
 use Rattle.index.specs.Index as indexes
 use Rattle.index.proofs.Accepted.{Accepted}
@@ -22,6 +21,7 @@ use Rattle.plant_text.specs.PlantText.{Stage, start, devices, terms, pos
 use Rattle.plant_text.specs.declared.Room.{Room}
 use Rattle.plant_text.specs.declared.lines.Form.{Form}
 use Rattle.plant_text.specs.declared.lines.Form.the-variants as form
+use Rattle.plant_text.proofs.Lists.{device-of}
 use Rattle.plant_text.proofs.AcceptedDevices.{Growing, growing-none, growing-open, growing-close, growing-end}
 use Rattle.plant_text.proofs.AcceptedTerms.{accepts, accepted-none, accepted-open, accepted-add}
 use Rattle.plant_text.proofs.AcceptedLines.{bytes, lines-bytes, cost, form-cost}
@@ -99,11 +99,6 @@ stage-is s t h = coded s ∙ ap decoded (eqb-yes (rank s) (rank t) .0 h) ∙ sym
 empty-list : (l : List ℕ) → empty l ≡ true → l ≡ []
 empty-list [] h = refl
 empty-list (x ∷ xs) h = absurd (true≢false (sym h))
-
--- "A posting is 2 times the device, plus 1 if it is for the whole branch"
-device-of : (d : ℕ) (s : Bool) → device (posting d s) ≡ d
-device-of d true = omega arith
-device-of d false = omega arith
 
 -- with no device open and no term
 first-term : (P : Plant) (I : Index) → Growing [] P → I ≡ index [] [] [] → Accepted P I

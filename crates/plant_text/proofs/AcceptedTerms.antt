@@ -16,8 +16,8 @@ use Rattle.plant.specs.Plant as plants
 use Rattle.plant.specs.Plant.{Plant, size}
 use Rattle.index.specs.Postings.{device, shadowed}
 use Rattle.index.specs.Index.{Index, index, count, list, unfit, wrong-start, misplaced-in, redundant-in, tables-refusal}
+use Rattle.index.specs.inner.Lists.{SoundList}
 use Rattle.index.proofs.Accepted.{Accepted, bounds}
-use Rattle.plant_text.specs.Terms.{Sound}
 use Rattle.plant_text.proofs.Lists.{entry-before, entry-new, placed-more, sound-none, sound-more}
 
 -- what is accepted is refused by none of 1 to 9
@@ -43,7 +43,7 @@ accepted-none P h = record {
 
 -- rows 8 and 9, list by list
 record SoundLists (P : Plant) (I : Index) : Type 0 where
-  each : (k : ℕ) → 1 ≤ k → k ≤ count I → Sound (P .last) (list I k)
+  each : (k : ℕ) → 1 ≤ k → k ≤ count I → SoundList (P .last) (list I k)
 
 lists-of : (P : Plant) (I : Index) → Accepted P I → SoundLists P I
 lists-of P I a = record {

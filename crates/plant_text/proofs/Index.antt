@@ -20,14 +20,14 @@ use Rattle.text.specs.Reading.{Read, no}
 use Rattle.text.specs.declared.Number.{Number}
 use Rattle.text.specs.declared.Number.the-variants.{Value, Missing}
 use Rattle.plant_text.specs.PlantText.{State, terms, postings, line-refusal, next}
-use Rattle.plant_text.specs.Rest.{Lexed, Stands, term-of, end-refusal}
-use Rattle.plant_text.specs.Terms.{Before, SamePosts, PostsAt, PostsRead, posts-result, from-posting, terms-made, OpensTerm, SameTerms, at-term, TermsAt, ClosedAt, TermsStart}
+use Rattle.plant_text.specs.inner.Rest.{Lexed, ReadingAt, term-of, end-refusal}
+use Rattle.plant_text.specs.inner.Terms.{Before, SamePosts, PostsAt, PostsRead, posts-result, from-posting, terms-made, OpensTerm, SameTerms, at-term, TermsAt, ClosedAt, TermsStart}
 use Rattle.plant_text.specs.declared.Room.{Room}
 use Rattle.plant_text.specs.declared.lines.Form.{Form}
 use Rattle.plant_text.specs.declared.lines.Form.the-variants.{Plant, Device, Term, Posting, Close, Other, Unfinished}
 use Rattle.plant_text.specs.declared.lines.Ending.{Ending}
 use Rattle.plant_text.specs.declared.lines.Ending.the-variants as ending
-use Rattle.plant_text.proofs.Reading.{form-refused, form-taken, reading-form, lexed-moves, stands-next, is-term, is-closing, finished}
+use Rattle.plant_text.proofs.Reading.{form-refused, form-taken, reading-form, lexed-moves, next-line, is-term, is-closing, finished}
 use Rattle.plant_text.proofs.Lists.{empty-entry}
 
 -- the newest term, or 0
@@ -87,8 +87,8 @@ pub terms-start : {r : Room} {t last : List ℕ} {count at k : ℕ} {X : indexes
     TermsAt r t last count (at-term r t X f at k 0 0) X f at k 0 0
 terms-start b = record {
   reads = record { same = λ P g. refl };
-  stands = λ o. let s = b .stands o in record { fits = s .fits; within = s .within; lined = s .lined; counted = omega (arith, s .counted) };
-  counted = λ o. b .stands o .counted;
+  at-line = λ o. let s = b .at-line o in record { fits = s .fits; within = s .within; lined = s .lined; counted = omega (arith, s .counted) };
+  counted = λ o. b .at-line o .counted;
   within = b .within;
   lasts = b .lasts;
   fits = b .fits;
@@ -110,8 +110,8 @@ module _ {r : Room} {t last T S L : List ℕ} {count at k n p : ℕ} {A : plants
       closes : f ≡ Close
       closes = is-closing 1 f (sym u ∙ z)
 
-      pub closing-stands : Stands t at (k + 1) p
-      closing-stands = e .stands (finished closes refl)
+      pub closing-at-line : ReadingAt t at (k + 1) p
+      closing-at-line = e .at-line (finished closes refl)
 
       pub terms-closed : ClosedAt r t last count A (index T S L) at (k + 1) n p
       unfolding line-refusal next
@@ -129,8 +129,8 @@ module _ {r : Room} {t last T S L : List ℕ} {count at k n p : ℕ} {A : plants
     here : f ≡ Term d
     here = is-term f (sym q ∙ w)
 
-    pub term-stands : Stands t at (k + 1) p × (count < at)
-    term-stands = (e .stands (finished here refl), e .counted (finished here refl))
+    pub term-at-line : ReadingAt t at (k + 1) p × (count < at)
+    term-at-line = (e .at-line (finished here refl), e .counted (finished here refl))
 
     module _ {T′ S′ : List ℕ} {x : ℕ} (op : OpensTerm r T S n p d T′ S′ x) where
       pub term-refused : (x ≡ 0 → ⊥) → SameTerms last count A (λ P. no x k)
@@ -164,7 +164,7 @@ module _ {r : Room} {t last T S L : List ℕ} {count at k n p : ℕ} {A : plants
           ended = subst (posts-result r t last L at (k + 1) count p L′) h (g .result)
 
           pub ended-within : (at < b) × (b ≤ length t)
-          ended-within = (omega (arith, ended .onward), ended .stands .within)
+          ended-within = (omega (arith, ended .onward), ended .at-line .within)
 
           pub terms-more : {f′ : Form} {nxt : ℕ} → Lexed t b f′ nxt → TermsAt r t last count A (index T′ S′ L′) f′ nxt l (n + 1) i
           terms-more {f′} {nxt} x = record {
@@ -172,9 +172,9 @@ module _ {r : Room} {t last T S L : List ℕ} {count at k n p : ℕ} {A : plants
               same = λ P o.
                   entered (ended .reads) .same P o
                   ∙ reading-form x r (terms-made P (index T′ S′ L′) (n + 1) i terms) l
-                  (omega (arith, ap length o, length-take-le count last (e .lasts), ended .counted, ended .stands .within, ended .stands .fits)) refl;
+                  (omega (arith, ap length o, length-take-le count last (e .lasts), ended .counted, ended .at-line .within, ended .at-line .fits)) refl;
             };
-            stands = λ o. stands-next (ended .stands) x o i (omega arith);
+            at-line = λ o. next-line (ended .at-line) x o i (omega arith);
             counted = λ o. let m = lexed-moves x o in omega (arith, ended .counted);
             within = x .within;
             lasts = e .lasts;
@@ -184,7 +184,7 @@ module _ {r : Room} {t last T S L : List ℕ} {count at k n p : ℕ} {A : plants
           }
 
 -- each table is as long as it was
-pub record Sizes (X₀ X : indexes.Index) : Type 0 where
+pub record IndexSizes (X₀ X : indexes.Index) : Type 0 where
   pub terms : length (X .terms) ≡ length (X₀ .terms)
   pub starts : length (X .starts) ≡ length (X₀ .starts)
   pub postings : length (X .postings) ≡ length (X₀ .postings)

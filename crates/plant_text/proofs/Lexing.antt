@@ -4,15 +4,14 @@ use mathlib.Core.Path.{_≡_, refl, sym, _∙_}
 use mathlib.Core.Bool.{Bool, true, false, cond}
 use mathlib.Core.List.{List}
 use native.Mathlib.Omega.{arith}
-use lib.ListN.{length, drop, length-drop}
+use lib.ListN.{length}
 use Rattle.text.specs.Lines.{line-at}
 use Rattle.text.specs.Decimal.{capped}
 use Rattle.text.specs.Words.{exactly, opening, whole-form, or-else}
 use Rattle.text.specs.declared.Number.{Number}
 use Rattle.text.specs.declared.Number.the-variants.{Value, Missing}
-use Rattle.text.proofs.Lines.{length-line, before-within}
 use Rattle.plant_text.specs.Form.{form, word-plant, word-close, word-dev, word-mark, word-all, word-own}
-use Rattle.plant_text.specs.Rest.{capped-form, Lexed}
+use Rattle.plant_text.specs.inner.Rest.{capped-form, Lexed}
 use Rattle.plant_text.specs.declared.lines.Form.{Form}
 use Rattle.plant_text.specs.declared.lines.Form.the-variants.{Plant, Device, Term, Posting, Close, Other, Unfinished}
 
@@ -80,9 +79,6 @@ module _ (s : List ℕ) where
               form-other q = sym (form-capped ∙ rw (← p, t, ← c, u, ← e, e₀, ← f, f₀, ← g, g₀, ← h, q))
 
 -- the line at an index
-pub line-fits : (t : List ℕ) (at : ℕ) → at ≤ length t → at + length (line-at t at) ≤ length t
-line-fits t at h = omega (arith, length-line t at, before-within 10 (drop at t), length-drop at t)
-
 module _ (t : List ℕ) (at : ℕ) {l : List ℕ} (w : at ≤ length t) (e : l ≡ line-at t at) where
   pub lexed-tail : length t ≤ at + length l → Lexed t at Unfinished at
   lexed-tail h = record { onward = omega arith; within = w; whole = λ g. absurd (omega arith); unfinished = λ q. (refl, rw e at h) }

@@ -15,8 +15,14 @@ use Rattle.laws.proofs.Tests.{tests}
 use Rattle.laws.proofs.Cases.{by-order}
 use Rattle.laws.proofs.Search.{any-none, none-any}
 use Rattle.index.specs.Postings.{device, shared, reach, misplaced, shadowed}
+use Rattle.index.specs.inner.Lists.{SoundList}
 use Rattle.index.proofs.Lists.{ranged, rises, reaches, shadowed-last}
-use Rattle.plant_text.specs.Terms.{Sound}
+use Rattle.plant_text.specs.PlantText.{posting}
+
+-- "A posting is 2 times the device, plus 1 if it is for the whole branch"
+pub device-of : (d : ℕ) (s : Bool) → device (posting d s) ≡ d
+device-of d true = omega arith
+device-of d false = omega arith
 
 module _ (l : List ℕ) (q : ℕ) where
   longer : length (l ++ (q ∷ [])) ≡ length l + 1
@@ -48,11 +54,11 @@ module _ (most : ℕ) (key : ℕ → ℕ) (l : List ℕ) (q : ℕ) where
       (λ v. rw (entry-new l q (length l + 1) refl, z, entry-before l q (length l) v (omega arith)) (simp tests (omega arith)))
       (λ v. rw (entry-new l q (length l + 1) refl) (simp tests (omega arith))))
 
-pub sound-none : (last l : List ℕ) → length l ≡ 0 → Sound last l
+pub sound-none : (last l : List ℕ) → length l ≡ 0 → SoundList last l
 unfolding any
 sound-none last l e = record { placed = rw e; single = rw e }
 
-module _ (last l : List ℕ) (h : Sound last l) where
+module _ (last l : List ℕ) (h : SoundList last l) where
   -- the newest posting, where it is shared, is for a device of the plant
   pub newest-entry : (q : ℕ) → q ≡ entry l (length l) → shared q ≡ true → IsEntry last (device q)
   newest-entry q e t =
@@ -79,7 +85,7 @@ module _ (last l : List ℕ) (h : Sound last l) where
         (λ i c d. rw (entry-before l q i c d) (none-any _ n i c d))
         (rw (entry-new l q (length l + 1) refl) (simp tests (λ p. absurd (omega arith))))
 
-    pub sound-more : Sound last (l ++ (q ∷ []))
+    pub sound-more : SoundList last (l ++ (q ∷ []))
     sound-more = record {
       placed = placed-more (length last) device l q (h .placed) a b u;
       single = none-longer l q _

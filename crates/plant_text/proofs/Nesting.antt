@@ -18,8 +18,8 @@ use Rattle.text.specs.Reading.{Read, no}
 use Rattle.text.specs.declared.Number.{Number}
 use Rattle.text.specs.declared.Number.the-variants.{Value, Missing}
 use Rattle.plant_text.specs.PlantText.{State, line-refusal, next}
-use Rattle.plant_text.specs.Rest.{Lexed, Stands, level-of, end-refusal}
-use Rattle.plant_text.specs.Devices.{Fits, devices-made, Stack, Opens, from-device, at-form, Same, Ends, Stops, DeviceRead, device-result, ListRead, list-result}
+use Rattle.plant_text.specs.inner.Rest.{Lexed, ReadingAt, level-of, end-refusal}
+use Rattle.plant_text.specs.inner.Devices.{Fits, devices-made, Stack, Opens, from-device, at-form, Same, DevicesAt, Stops, DeviceRead, device-result, ListRead, list-result}
 use Rattle.plant_text.specs.declared.Room.{Room}
 use Rattle.plant_text.specs.declared.lines.Form.{Form}
 use Rattle.plant_text.specs.declared.lines.Form.the-variants.{Plant, Device, Term, Posting, Close, Other, Unfinished}
@@ -27,7 +27,7 @@ use Rattle.plant_text.specs.declared.lines.Ending.{Ending}
 use Rattle.plant_text.specs.declared.lines.Ending.the-variants as ending
 use Rattle.plant_text.specs.declared.devices.Listed.{Listed}
 use Rattle.plant_text.specs.declared.devices.Listed.the-variants as listed
-use Rattle.plant_text.proofs.Reading.{form-refused, form-taken, reading-form, lexed-moves, stands-next, is-device, is-closing, finished}
+use Rattle.plant_text.proofs.Reading.{form-refused, form-taken, reading-form, lexed-moves, next-line, is-device, is-closing, finished}
 
 -- the rows of a device line, with the code's counts in their places
 module _ (r : Room) (count depth n : ℕ) {x : ℕ} (e : x ≡ pick (ltb 255 n) 22 (pick (leb 32 depth) 23 (pick (leb (r .devices) count) 27 0))) where
@@ -66,24 +66,24 @@ module _ {depth top : ℕ} where
   same-trans p q = record { same = λ stack st. p .same stack st ∙ q .same stack st }
 
 -- a list of devices, where it begins
-pub list-start : {r : Room} {t : List ℕ} {T : plants.Plant} {depth top at k c : ℕ} → Stands t at k c → Fits r T → c ≤ r .devices →
-    Ends r t depth top (from-device r t T at k c) at c T at k c
-list-start s f h = record { reads = record { same = λ stack st. refl }; stands = s; fits = f; holds = h; onward = omega arith; more = omega arith }
+pub list-start : {r : Room} {t : List ℕ} {T : plants.Plant} {depth top at k c : ℕ} → ReadingAt t at k c → Fits r T → c ≤ r .devices →
+    DevicesAt r t depth top (from-device r t T at k c) at c T at k c
+list-start s f h = record { reads = record { same = λ stack st. refl }; at-line = s; fits = f; holds = h; onward = omega arith; more = omega arith }
 
 -- a list of devices that has been read up to an index, and the line there
 module _ {r : Room} {t : List ℕ} {T : plants.Plant} {depth top since count a k c nxt : ℕ} {A : List ℕ → Read State} {f : Form} {v : Number}
-    (e : Ends r t depth top A since count T a k c) (x : Lexed t a f nxt) (q : v ≡ level-of f) where
-  at-line : Same depth top A (at-form r t T f nxt k c)
-  at-line = same-trans (e .reads) (record {
+    (e : DevicesAt r t depth top A since count T a k c) (x : Lexed t a f nxt) (q : v ≡ level-of f) where
+  up-to-line : Same depth top A (at-form r t T f nxt k c)
+  up-to-line = same-trans (e .reads) (record {
     same = λ stack st. reading-form x r (devices-made T c stack) k
-        (omega (arith, length-take-le c (T .last) (omega (arith, e .holds, e .fits .last)), e .stands .counted, e .stands .within, e .stands .fits)) refl;
+        (omega (arith, length-take-le c (T .last) (omega (arith, e .holds, e .fits .last)), e .at-line .counted, e .at-line .within, e .at-line .fits)) refl;
   })
 
   pub list-stop : v ≡ Missing → Stops r t depth top A since count T f nxt k c
   list-stop w = record {
-    reads = at-line;
+    reads = up-to-line;
     no-device = sym q ∙ w;
-    stands = λ o. stands-next (e .stands) x o c (omega arith);
+    at-line = λ o. next-line (e .at-line) x o c (omega arith);
     fits = e .fits;
     holds = e .holds;
     onward = λ o. let m = lexed-moves x o in omega (arith, e .onward);
@@ -98,23 +98,23 @@ module _ {r : Room} {t : List ℕ} {T : plants.Plant} {depth top since count a k
     pub device-moves : a < nxt
     device-moves = lexed-moves x (finished here refl)
 
-    pub device-stands : Stands t nxt (k + 1) (c + 1)
-    device-stands = stands-next (e .stands) x (finished here refl) (c + 1) (omega arith)
+    pub device-at-line : ReadingAt t nxt (k + 1) (c + 1)
+    device-at-line = next-line (e .at-line) x (finished here refl) (c + 1) (omega arith)
 
     at-device : Same depth top A (at-form r t T (Device n) nxt k c)
-    at-device = subst (λ (g : Form). Same depth top A (at-form r t T g nxt k c)) here at-line
+    at-device = subst (λ (g : Form). Same depth top A (at-form r t T g nxt k c)) here up-to-line
 
     module _ {T′ : plants.Plant} {y : Ending} (d : DeviceRead r t T n nxt k c depth top T′ y) where
       pub list-refused : {w l : ℕ} → y ≡ ending.Refused w l → Same depth top A (λ stack. no w l)
       list-refused g = same-trans at-device (subst (device-result r t T n nxt k c depth top T′) g (d .result))
 
-      pub list-more : {b l g : ℕ} → y ≡ ending.Ended b l g → Ends r t depth top A since count T′ b l g
+      pub list-more : {b l g : ℕ} → y ≡ ending.Ended b l g → DevicesAt r t depth top A since count T′ b l g
       list-more g =
           let p = subst (device-result r t T n nxt k c depth top T′) g (d .result) in
           let m = device-moves in
           record {
             reads = same-trans at-device (p .reads);
-            stands = p .stands;
+            at-line = p .at-line;
             fits = p .fits;
             holds = p .holds;
             onward = omega (arith, e .onward, p .onward);
@@ -125,7 +125,7 @@ module _ {r : Room} {t : List ℕ} {T : plants.Plant} {depth top since count a k
       list-onward g =
           let p = subst (device-result r t T n nxt k c depth top T′) g (d .result) in
           let m = device-moves in
-          (omega (arith, p .onward), p .stands .within)
+          (omega (arith, p .onward), p .at-line .within)
 
 -- a form that ends no device is refused within one
 not-ended : (r : Room) (T : plants.Plant) (c d depth : ℕ) (stack : List ℕ) (f : Form) → level-of f ≡ Missing → (end-refusal (depth + 2) f ≡ 0 → ⊥) →
@@ -162,8 +162,8 @@ module _ {r : Room} {t : List ℕ} {T T′ : plants.Plant} {at k count depth top
     ended = is-closing b f (sym w ∙ u)
 
     -- the facts that the code's sums and the write of the last number ask
-    pub close-stands : Stands t nxt (l + 1) c × (count ≤ c) × (c ≤ r .devices) × Fits r T′
-    close-stands = (stopped .stands (finished ended refl), stopped .more, stopped .holds, stopped .fits)
+    pub close-at-line : ReadingAt t nxt (l + 1) c × (count ≤ c) × (c ≤ r .devices) × Fits r T′
+    close-at-line = (stopped .at-line (finished ended refl), stopped .more, stopped .holds, stopped .fits)
 
     close-onward : at ≤ nxt
     close-onward = stopped .onward (finished ended refl)
@@ -203,7 +203,7 @@ module _ {r : Room} {T T₁ : plants.Plant} {depth n count out x : ℕ} (t : Lis
 
         pub device-ended : v ≡ 0 → DeviceRead r t T n at k count depth top (plant (set (T₂ .last) count c) (T₂ .root) (T₂ .level)) (ending.Ended nxt (l + 1) c)
         device-ended u =
-            let s = close-stands d g (depth + 2) w u in
+            let s = close-at-line d g (depth + 2) w u in
             let i : count < c = omega (arith, s .1) in
             let j : c ≤ length (T₂ .last) = omega (arith, s .2, s .3 .last) in
             record {
@@ -213,7 +213,7 @@ module _ {r : Room} {T T₁ : plants.Plant} {depth n count out x : ℕ} (t : Lis
                       rw (ended d g (depth + 2) w u)
                       (form-taken r (devices-made T₂ c ((count + 1) ∷ stack)) l (drop nxt t) Close (close-refusal r T₂ c count i j stack) (close-next r T₂ c count i j stack));
                 });
-                stands = s .0;
+                at-line = s .0;
                 fits = record { last = simp length-set (s .3 .last); root = s .3 .root; level = s .3 .level };
                 holds = s .2;
                 onward = close-onward d g (depth + 2) w u;
@@ -222,7 +222,7 @@ module _ {r : Room} {T T₁ : plants.Plant} {depth n count out x : ℕ} (t : Lis
             }
 
 -- each table is as long as it was
-pub record Sizes (T₀ T : plants.Plant) : Type 0 where
+pub record PlantSizes (T₀ T : plants.Plant) : Type 0 where
   pub last : length (T .last) ≡ length (T₀ .last)
   pub root : length (T .root) ≡ length (T₀ .root)
   pub level : length (T .level) ≡ length (T₀ .level)

@@ -15,17 +15,18 @@ use Rattle.laws.proofs.Rows.{pick-none}
 use Rattle.laws.proofs.Tests.{flags}
 use Rattle.laws.proofs.Cases.{either}
 use Rattle.index.specs.Postings.{device, shared, reach, shadowed}
+use Rattle.index.specs.inner.Lists.{SoundList}
 use Rattle.text.specs.Reading.{Read, no}
 use Rattle.plant_text.specs.PlantText.{State, postings, terms, current, posting, line-refusal, next}
-use Rattle.plant_text.specs.Rest.{from-form, Lexed, Stands, posting-of, end-refusal}
-use Rattle.plant_text.specs.Terms.{Sound, Before, posts-made, Adds, from-posting, SamePosts, PostsAt}
+use Rattle.plant_text.specs.inner.Rest.{from-form, Lexed, ReadingAt, posting-of, end-refusal}
+use Rattle.plant_text.specs.inner.Terms.{Before, posts-made, Adds, from-posting, SamePosts, PostsAt}
 use Rattle.plant_text.specs.declared.Room.{Room}
 use Rattle.plant_text.specs.declared.lines.Form.{Form}
 use Rattle.plant_text.specs.declared.lines.Form.the-variants.{Plant, Device, Term, Posting, Close, Other, Unfinished}
 use Rattle.plant_text.specs.declared.lines.Posted.{Posted}
 use Rattle.plant_text.specs.declared.lines.Posted.the-variants.{Here, Nothing}
-use Rattle.plant_text.proofs.Reading.{form-refused, form-taken, reading-form, lexed-moves, stands-next, is-posting, is-closing, finished}
-use Rattle.plant_text.proofs.Lists.{empty-entry, sound-none, newest-entry, shadowed-newest, sound-more}
+use Rattle.plant_text.proofs.Reading.{form-refused, form-taken, reading-form, lexed-moves, next-line, is-posting, is-closing, finished}
+use Rattle.plant_text.proofs.Lists.{device-of, empty-entry, sound-none, newest-entry, shadowed-newest, sound-more}
 
 -- the newest posting of a list, or 0
 module _ (posts : List ℕ) (begin n : ℕ) (k : n ≤ length posts) where
@@ -37,10 +38,6 @@ module _ (posts : List ℕ) (begin n : ℕ) (k : n ≤ length posts) where
 
   pub newest-none : n ≤ begin → 0 ≡ entry (slice begin n posts) (n - begin)
   newest-none h = sym (empty-entry (slice begin n posts) (n - begin) (omega (arith, length-slice begin n posts k)))
-
-device-of : (d : ℕ) (s : Bool) → device (posting d s) ≡ d
-device-of d true = omega arith
-device-of d false = omega arith
 
 -- the rows of a posting agree where their last tests do
 same-rows : (a b c u v : Bool) → (a ≡ false → c ≡ false → u ≡ v) → pick a 22 (pick b 27 (pick c 28 (pick u 29 0))) ≡ pick a 22 (pick b 27 (pick c 28 (pick v 29 0)))
@@ -55,7 +52,7 @@ in-range d count h =
     (λ p. let z : ltb count d ≡ false = rw p at h in (omega flags, omega flags))
 
 module _ (r : Room) (last posts : List ℕ) (count begin n : ℕ) {q : ℕ} (hc : count ≤ length last) (hb : begin ≤ n) (hn : n ≤ r .postings) (hp : r .postings ≤ length posts)
-    (sound : Sound (take count last) (slice begin n posts)) (eq : q ≡ entry (slice begin n posts) (n - begin)) where
+    (sound : SoundList (take count last) (slice begin n posts)) (eq : q ≡ entry (slice begin n posts) (n - begin)) where
   newest : q ≡ entry (slice begin n posts) (length (slice begin n posts))
   newest = rw (length-slice begin n posts (omega arith)) eq
 
@@ -132,11 +129,11 @@ not-posting r m posts n Close e h = absurd (h refl)
 not-posting r m posts n Other e h = refl
 not-posting r m posts n Unfinished e h = refl
 
-pub posts-start : {r : Room} {t last posts : List ℕ} {at k count begin : ℕ} → Stands t at k begin → count < at → count ≤ length last → begin ≤ r .postings →
+pub posts-start : {r : Room} {t last posts : List ℕ} {at k count begin : ℕ} → ReadingAt t at k begin → count < at → count ≤ length last → begin ≤ r .postings →
     r .postings ≤ length posts → PostsAt r t last count begin (from-posting r t postings posts at k begin) at postings posts at k begin
 posts-start {r} {t} {last} {posts} {at} {k} {count} {begin} s c l h p = record {
   reads = record { same = λ m b. refl };
-  stands = s;
+  at-line = s;
   counted = c;
   lasts = l;
   more = omega arith;
@@ -148,19 +145,19 @@ posts-start {r} {t} {last} {posts} {at} {k} {count} {begin} s c l h p = record {
 
 module _ {r : Room} {t last posts : List ℕ} {count begin since a k n nxt : ℕ} {A : State → Read State} {f : Form} {v : Posted}
     (e : PostsAt r t last count begin A since postings posts a k n) (x : Lexed t a f nxt) (q : v ≡ posting-of f) where
-  at-line : SamePosts last count begin A (λ m. from-form r (posts-made m posts n postings) f k (drop nxt t))
-  at-line = record {
+  up-to-line : SamePosts last count begin A (λ m. from-form r (posts-made m posts n postings) f k (drop nxt t))
+  up-to-line = record {
     same = λ m b.
         e .reads .same m b
         ∙ reading-form x r (posts-made m posts n postings) k
-        (omega (arith, ap length (b .lasts), length-take-le count last (e .lasts), e .counted, e .stands .within, e .stands .fits)) refl;
+        (omega (arith, ap length (b .lasts), length-take-le count last (e .lasts), e .counted, e .at-line .within, e .at-line .fits)) refl;
   }
 
   module _ (w : v ≡ Nothing) {y : ℕ} (u : y ≡ end-refusal 2 f) where
     pub posts-refused : (y ≡ 0 → ⊥) → SamePosts last count begin A (λ m. no y k)
     posts-refused h = record {
       same = λ m b.
-          at-line .same m b
+          up-to-line .same m b
           ∙ form-refused r (posts-made m posts n postings) k (drop nxt t) f y (not-posting r m posts n f (sym q ∙ w) (λ z. h (u ∙ z)) ∙ sym u) h;
     }
 
@@ -168,8 +165,8 @@ module _ {r : Room} {t last posts : List ℕ} {count begin since a k n nxt : ℕ
       closes : f ≡ Close
       closes = is-closing 2 f (sym u ∙ z)
 
-      pub ending-stands : Stands t nxt (k + 1) n
-      ending-stands = stands-next (e .stands) x (finished closes refl) n (omega arith)
+      pub ending-at-line : ReadingAt t nxt (k + 1) n
+      ending-at-line = next-line (e .at-line) x (finished closes refl) n (omega arith)
 
       pub posts-ended : PostsAt r t last count begin A (since + 1) terms posts nxt (k + 1) n
       unfolding line-refusal next
@@ -177,9 +174,9 @@ module _ {r : Room} {t last posts : List ℕ} {count begin since a k n nxt : ℕ
           let m = lexed-moves x (finished closes refl) in
           record {
             reads = record {
-              same = λ m b. at-line .same m b ∙ rw closes (form-taken r (posts-made m posts n postings) k (drop nxt t) Close refl refl);
+              same = λ m b. up-to-line .same m b ∙ rw closes (form-taken r (posts-made m posts n postings) k (drop nxt t) Close refl refl);
             };
-            stands = ending-stands;
+            at-line = ending-at-line;
             counted = omega (arith, e .counted);
             lasts = e .lasts;
             more = e .more;
@@ -193,8 +190,8 @@ module _ {r : Room} {t last posts : List ℕ} {count begin since a k n nxt : ℕ
     here : f ≡ Posting d s
     here = is-posting f (sym q ∙ w)
 
-    pub posting-stands : Stands t nxt (k + 1) (n + 1)
-    posting-stands = stands-next (e .stands) x (finished here refl) (n + 1) (omega arith)
+    pub posting-at-line : ReadingAt t nxt (k + 1) (n + 1)
+    posting-at-line = next-line (e .at-line) x (finished here refl) (n + 1) (omega arith)
 
     pub posting-moves : (a < nxt) × (nxt ≤ length t)
     posting-moves = (lexed-moves x (finished here refl), x .within)
@@ -203,7 +200,7 @@ module _ {r : Room} {t last posts : List ℕ} {count begin since a k n nxt : ℕ
       pub posting-refused : (y ≡ 0 → ⊥) → SamePosts last count begin A (λ m. no y k)
       posting-refused h = record {
         same = λ m b.
-            at-line .same m b ∙ rw here (form-refused r (posts-made m posts n postings) k (drop nxt t) (Posting d s) y (ad .refusal-is m b) h);
+            up-to-line .same m b ∙ rw here (form-refused r (posts-made m posts n postings) k (drop nxt t) (Posting d s) y (ad .refusal-is m b) h);
       }
 
       pub posting-added : y ≡ 0 → PostsAt r t last count begin A since postings posts′ nxt (k + 1) (n + 1)
@@ -212,10 +209,10 @@ module _ {r : Room} {t last posts : List ℕ} {count begin since a k n nxt : ℕ
           record {
             reads = record {
               same = λ m b.
-                  at-line .same m b
+                  up-to-line .same m b
                   ∙ rw here (form-taken r (posts-made m posts n postings) k (drop nxt t) (Posting d s) (ad .refusal-is m b ∙ z) (ad .adds z m));
             };
-            stands = posting-stands;
+            at-line = posting-at-line;
             counted = omega (arith, e .counted);
             lasts = e .lasts;
             more = omega (arith, e .more);

@@ -15,7 +15,7 @@ use Rattle.text.proofs.Decimal.{by-cap}
 use Rattle.text.proofs.Reading as texts
 use Rattle.plant_text.specs.Form.{form, is-unfinished}
 use Rattle.plant_text.specs.PlantText.{State, is, devices, terms, postings, closed, empty, line-refusal, next, line, end}
-use Rattle.plant_text.specs.Rest.{from, from-form, capped-form, Lexed, Stands, level-of, term-of, posting-of, end-refusal}
+use Rattle.plant_text.specs.inner.Rest.{from, from-form, capped-form, Lexed, ReadingAt, level-of, term-of, posting-of, end-refusal}
 use Rattle.text.specs.declared.Number.the-variants.{Value}
 use Rattle.plant_text.specs.declared.lines.Posted.the-variants.{Here}
 use Rattle.plant_text.specs.declared.Room.{Room}
@@ -78,9 +78,9 @@ pub lexed-moves : {t : List ℕ} {at nxt : ℕ} {f : Form} → Lexed t at f nxt 
 lexed-moves {t} {at} {nxt} {f} x h =
     by-order at nxt (λ l. l) (λ l. let u : true ≡ false = rw (x .unfinished (omega (arith, x .onward)) .0) at h in absurd (true≢false u))
 
--- where reading stands after a line
-pub stands-next : {t : List ℕ} {at nxt k c : ℕ} {f : Form} → Stands t at k c → Lexed t at f nxt → is-unfinished f ≡ false → (n : ℕ) → n ≤ c + 1 → Stands t nxt (k + 1) n
-stands-next s x h n l = let m = lexed-moves x h in record { fits = s .fits; within = x .within; lined = omega (arith, s .lined); counted = omega (arith, s .counted) }
+-- where reading is after a line
+pub next-line : {t : List ℕ} {at nxt k c : ℕ} {f : Form} → ReadingAt t at k c → Lexed t at f nxt → is-unfinished f ≡ false → (n : ℕ) → n ≤ c + 1 → ReadingAt t nxt (k + 1) n
+next-line s x h n l = let m = lexed-moves x h in record { fits = s .fits; within = x .within; lined = omega (arith, s .lined); counted = omega (arith, s .counted) }
 
 -- a row of two tests
 pub pick-or : (a b : Bool) (n m : ℕ) → pick (a || b) n m ≡ pick a n (pick b n m)

@@ -17,11 +17,11 @@ use Rattle.text.specs.Reading.{Read, made, no}
 use Rattle.text.specs.declared.Number.the-variants.{Missing}
 use Rattle.text.proofs.Reading as texts
 use Rattle.plant_text.specs.Form.{form}
-use Rattle.plant_text.specs.PlantText.{State, nothing, is, terms, closed, line-refusal, next, line, end, read-plant, room, outcome-of, kept, filled, plant-after, index-after}
-use Rattle.plant_text.specs.Rest.{from, from-form, Lexed, Stands, level-of, start-refusal}
-use Rattle.plant_text.specs.Devices.{Fits, front, Same, Stops, ListRead, list-result, devices-made, from-device}
-use Rattle.plant_text.specs.Terms.{FitsIndex, terms-made, SameTerms, ClosedAt, at-term, TermsStart, TermsRead, terms-result}
-use Rattle.plant_text.specs.Whole.{devices-of, terms-of, postings-of, says, ReadAll}
+use Rattle.plant_text.specs.PlantText.{State, nothing, is, terms, closed, line-refusal, next, line, end, read-plant, room, outcome-of, kept, filled, outcome-after, plant-after, index-after}
+use Rattle.plant_text.specs.inner.Rest.{from, from-form, Lexed, ReadingAt, level-of, start-refusal}
+use Rattle.plant_text.specs.inner.Devices.{Fits, front, Same, Stops, ListRead, list-result, devices-made, from-device}
+use Rattle.plant_text.specs.inner.Terms.{FitsIndex, terms-made, SameTerms, ClosedAt, at-term, TermsStart, TermsRead, terms-result}
+use Rattle.plant_text.specs.inner.Whole.{devices-in, terms-in, postings-in, says, ReadAll}
 use Rattle.plant_text.specs.declared.Room.{Room}
 use Rattle.plant_text.specs.declared.lines.Form.{Form}
 use Rattle.plant_text.specs.declared.lines.Form.the-variants.{Plant, Device, Term, Posting, Close, Other, Unfinished}
@@ -100,8 +100,8 @@ module _ {t : List ℕ} {f : Form} {nxt x : ℕ} (r : Room) (h : length t ≤ 65
     opens : f ≡ Plant
     opens = is-plant f (sym q ∙ u)
 
-    pub plant-stands : Stands t nxt 2 0
-    plant-stands = let m = lexed-moves e (finished opens refl) in record { fits = h; within = e .within; lined = omega arith; counted = omega arith }
+    pub plant-at-line : ReadingAt t nxt 2 0
+    plant-at-line = let m = lexed-moves e (finished opens refl) in record { fits = h; within = e .within; lined = omega arith; counted = omega arith }
 
     opened : (T : plants.Plant) → read-plant r t ≡ from-device r t T nxt 2 0 []
     unfolding line-refusal next
@@ -120,7 +120,7 @@ module _ {t : List ℕ} {f : Form} {nxt x : ℕ} (r : Room) (h : length t ≤ 65
         stops = stopped d g
 
         pub terms-ready : {X : indexes.Index} → FitsIndex r X → TermsStart r t (T₁ .last) c X f₁ a k
-        terms-ready i = let s = stops in record { stands = s .stands; within = s .within; lasts = omega (arith, s .holds, s .fits .last); fits = i }
+        terms-ready i = let s = stops in record { at-line = s .at-line; within = s .within; lasts = omega (arith, s .holds, s .fits .last); fits = i }
 
         module _ {X X₁ : indexes.Index} {z : Closing} (m : TermsRead r t (T₁ .last) c X f₁ a k X₁ z) where
           terms-reads : {b : plants.Plant → Read State} → SameTerms (T₁ .last) c (at-term r t X f₁ a k 0 0) b → read-plant r t ≡ b (front c T₁)
@@ -154,8 +154,8 @@ module _ {r : Room} (T : plants.Plant) (X : indexes.Index) (e : r ≡ room T X) 
 
 -- what is kept is the tables' front entries
 kept-is : (T : plants.Plant) (X : indexes.Index) (o : Outcome) →
-    (kept (says T X o) .plant ≡ front (devices-of o) T)
-    × (kept (says T X o) .index ≡ index (take (terms-of o) (X .terms)) (take (terms-of o) (X .starts)) (take (postings-of o) (X .postings)))
+    (kept (says T X o) .plant ≡ front (devices-in o) T)
+    × (kept (says T X o) .index ≡ index (take (terms-in o) (X .terms)) (take (terms-in o) (X .starts)) (take (postings-in o) (X .postings)))
 kept-is T X (outcome.Refused x k) = (refl, refl)
 kept-is T X (outcome.Made d n p) = (refl, refl)
 
@@ -166,17 +166,17 @@ filled-is l l₀ l′ {n} {m} q h e c = rw (c, q, length-take-le n l (omega arit
 -- the tables when they have been read and cleared
 module _ (L₀ R₀ W₀ A₀ S₀ Q₀ : List ℕ) {r : Room} {t L R W A S Q : List ℕ} {o : Outcome}
     (e : r ≡ room (plant L₀ R₀ W₀) (index A₀ S₀ Q₀)) (h : ReadAll r t (plant L R W) (index A S Q) o) where
-  pub answered : length L ≡ length L₀ → length A ≡ length A₀ → length Q ≡ length Q₀ → o ≡ outcome-of (read-plant (room (plant L₀ R₀ W₀) (index A₀ S₀ Q₀)) t)
-  answered l a q =
+  pub outcome-is : length L ≡ length L₀ → length A ≡ length A₀ → length Q ≡ length Q₀ → o ≡ outcome-after t (plant L₀ R₀ W₀) (index A₀ S₀ Q₀)
+  outcome-is l a q =
       let f = room-fits (plant L₀ R₀ W₀) (index A₀ S₀ Q₀) e in
       let i = room-fits-index (plant L₀ R₀ W₀) (index A₀ S₀ Q₀) e in
       rw (← e, h .means) (go o (omega (arith, h .devices, f .last)) (omega (arith, h .terms, i .terms)) (omega (arith, h .postings, i .postings)))
     where
-      go : (o : Outcome) → devices-of o ≤ length L → terms-of o ≤ length A → postings-of o ≤ length Q → o ≡ outcome-of (says (plant L R W) (index A S Q) o)
+      go : (o : Outcome) → devices-in o ≤ length L → terms-in o ≤ length A → postings-in o ≤ length Q → o ≡ outcome-of (says (plant L R W) (index A S Q) o)
       go (outcome.Refused x k) u v w = refl
       go (outcome.Made d n p) u v w = rw (length-take-le d L u, length-take-le n A v, length-take-le p Q w)
 
-  module _ {d : ℕ} (n : d ≡ devices-of o) where
+  module _ {d : ℕ} (n : d ≡ devices-in o) where
     pub plant-filled : {L′ R′ W′ : List ℕ} → length L ≡ length L₀ → length R ≡ length R₀ → length W ≡ length W₀ →
         L′ ≡ take d L ++ replicate (length L - d) 0 → R′ ≡ take d R ++ replicate (length R - d) 0 → W′ ≡ take d W ++ replicate (length W - d) 0 →
         plant L′ R′ W′ ≡ plant-after t (plant L₀ R₀ W₀) (index A₀ S₀ Q₀)
@@ -192,7 +192,7 @@ module _ (L₀ R₀ W₀ A₀ S₀ Q₀ : List ℕ) {r : Room} {t L R W A S Q : 
           filled-is W W₀ W′ n (omega (arith, f .level)) w c,
         )
 
-  module _ {m p : ℕ} (n : m ≡ terms-of o) (q : p ≡ postings-of o) where
+  module _ {m p : ℕ} (n : m ≡ terms-in o) (q : p ≡ postings-in o) where
     pub index-filled : {A′ S′ Q′ : List ℕ} → length A ≡ length A₀ → length S ≡ length S₀ → length Q ≡ length Q₀ →
         A′ ≡ take m A ++ replicate (length A - m) 0 → S′ ≡ take m S ++ replicate (length S - m) 0 → Q′ ≡ take p Q ++ replicate (length Q - p) 0 →
         index A′ S′ Q′ ≡ index-after t (plant L₀ R₀ W₀) (index A₀ S₀ Q₀)

@@ -1,6 +1,3 @@
 pub mod Form
 pub mod PlantText
-pub mod Rest
-pub mod Devices
-pub mod Terms
-pub mod Whole
+pub mod inner

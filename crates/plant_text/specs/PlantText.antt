@@ -4,6 +4,7 @@ use mathlib.Core.Bool.{Bool, true, false, cond, _&&_, _||_, not}
 use mathlib.Core.List.{List, [], _∷_, _++_}
 use lib.Dec.{leb, ltb, eqb}
 use lib.ListN.{length, set, replicate}
+use Rattle.laws.specs.Limits.{highest-term}
 use Rattle.laws.specs.Rows.{pick}
 use Rattle.laws.specs.Tables.{entry}
 use Rattle.plant.specs.Plant.{Plant, plant, size}
@@ -16,6 +17,18 @@ use Rattle.plant_text.specs.declared.lines.Form.the-variants as form
 use Rattle.plant_text.specs.declared.Room.{Room}
 use Rattle.plant_text.specs.declared.Outcome.{Outcome}
 use Rattle.plant_text.specs.declared.Outcome.the-variants as outcome
+
+-- 20: "over 65,536 bytes (line 0)"
+abbrev pub longest-text : ℕ
+longest-text = 65_536
+
+-- "its level code 0 to 255, held as one byte"
+abbrev pub highest-level : ℕ
+highest-level = 255
+
+-- "at most 32 are open together"
+abbrev pub most-open : ℕ
+most-open = 32
 
 -- "The text opens with a plant line, then come devices, then marks, then the closing line": before the plant line; among the devices; between
 -- terms; among the postings of a term; after the closing line
@@ -74,11 +87,11 @@ unopened m f = is-close f && eqb (brackets (m .stage) (m .opened)) 0
 
 -- 22: "level over 255, mark outside 1..65,535, posting device outside 1..N"
 abbrev pub out-of-range : State → Form → Bool
-out-of-range m = numbered (λ n. ltb 255 n) (λ t. eqb t 0 || ltb 65535 t) (λ d. eqb d 0 || ltb (size (m .plant)) d)
+out-of-range m = numbered (λ n. ltb highest-level n) (λ t. eqb t 0 || ltb highest-term t) (λ d. eqb d 0 || ltb (size (m .plant)) d)
 
 -- 23: "a 33rd open device"
 abbrev pub too-deep : State → Form → Bool
-too-deep m = numbered (λ n. leb 32 (length (m .opened))) never never
+too-deep m = numbered (λ n. leb most-open (length (m .opened))) never never
 
 -- 27: "a lent table has no place left for the line"
 abbrev pub no-place : Room → State → Form → Bool
@@ -182,9 +195,9 @@ line r m l = unless (line-refusal r m (form l)) (next m (form l))
 abbrev pub end : Room → State → List ℕ → Step State
 end r m tail = unless (pick (is closed m && empty tail) 0 (line-refusal r m form.Unfinished)) m
 
--- what a text comes to, with room for so many devices, terms and postings; 20: "over 65,536 bytes (line 0)"
+-- what a text comes to, with room for so many devices, terms and postings
 unfoldable pub read-plant : Room → List ℕ → Read State
-read-plant r text = cond (ltb 65536 (length text)) (no 20 0) (reading (line r) (end r) nothing 1 text)
+read-plant r text = cond (ltb longest-text (length text)) (no 20 0) (reading (line r) (end r) nothing 1 text)
 
 -- the room of lent tables: a device has an entry in each of three, a term in each of two
 abbrev pub places : ℕ → ℕ → ℕ → ℕ → ℕ → ℕ → Room
@@ -192,6 +205,10 @@ places l r v t s p = record { devices = min l (min r v); terms = min t s; postin
 
 abbrev pub room : Plant → Index → Room
 room P I = places (length (P .last)) (length (P .root)) (length (P .level)) (length (I .terms)) (length (I .starts)) (length (I .postings))
+
+-- what a text comes to that is read into the device tables P and the index's tables I
+abbrev pub read-into : List ℕ → Plant → Index → Read State
+read-into text P I = read-plant (room P I) text
 
 -- "Success gives the numbers of devices, marks and postings"; a refusal "gives the number and the line"
 abbrev pub outcome-of : Read State → Outcome
@@ -207,13 +224,16 @@ kept (no n k) = nothing
 abbrev pub filled : ℕ → List ℕ → List ℕ
 filled n l = l ++ replicate (n - length l) 0
 
--- the device tables P and the index's tables I after a text is read into them
+-- what reading a text into P and I answers, and what the tables hold then
+abbrev pub outcome-after : List ℕ → Plant → Index → Outcome
+outcome-after text P I = outcome-of (read-into text P I)
+
 abbrev pub plant-after : List ℕ → Plant → Index → Plant
 plant-after text P I =
-    let m = kept (read-plant (room P I) text) in
+    let m = kept (read-into text P I) in
     plant (filled (length (P .last)) (m .plant .last)) (filled (length (P .root)) (m .plant .root)) (filled (length (P .level)) (m .plant .level))
 
 abbrev pub index-after : List ℕ → Plant → Index → Index
 index-after text P I =
-    let m = kept (read-plant (room P I) text) in
+    let m = kept (read-into text P I) in
     index (filled (length (I .terms)) (m .index .terms)) (filled (length (I .starts)) (m .index .starts)) (filled (length (I .postings)) (m .index .postings))

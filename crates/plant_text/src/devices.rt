@@ -5,8 +5,9 @@ ghost use Prim.Native.Nat.{_+_, _≤_};
 ghost use lib.Dec.{leb, ltb, eqb};
 ghost use Rattle.laws.specs.Rows.{pick};
 ghost use Rattle.plant.specs.Plant.{plant};
-ghost use Rattle.plant_text.specs.Rest.{Stands};
-ghost use Rattle.plant_text.specs.Devices.{Fits, Opens, DeviceRead, ListRead};
+ghost use Rattle.plant_text.specs.PlantText.{«highest-level», «most-open»};
+ghost use Rattle.plant_text.specs.inner.Rest.{ReadingAt};
+ghost use Rattle.plant_text.specs.inner.Devices.{Fits, Opens, DeviceRead, ListRead};
 use crate::Room;
 use crate::lines::Ending;
 use crate::lines::Form;
@@ -31,7 +32,7 @@ fn outer(depth: u32, top: u16, d: u16) -> u16
 
 // Why a device of level n does not open below `depth` others, after `count` of the `most` that there is room for; or 0.
 fn device_refusal(n: u64, depth: u32, most: usize, count: usize) -> u32
-    ensures { λ r. ⌜ r ≡ pick (ltb 255 n) 22 (pick (leb 32 depth) 23 (pick (leb most count) 27 0)) ⌝ }
+    ensures { λ r. ⌜ r ≡ pick (ltb «highest-level» n) 22 (pick (leb «most-open» depth) 23 (pick (leb most count) 27 0)) ⌝ }
 {
     if 255 < n {
         return 22;
@@ -58,7 +59,11 @@ fn open_device(
 ) -> u32
     requires { ⌜ Fits room (plant (now last) (now root) (now level)) ⌝ }
     requires { ⌜ count ≤ room .devices ⌝ }
-    ensures { λ r. ⌜ Opens room (plant (now (last .entry)) (now (root .entry)) (now (level .entry))) count depth out n (plant (now (last .exit)) (now (root .exit)) (now (level .exit))) r ⌝ }
+    ensures opens { λ r. ⌜ Opens room
+        (plant (now (last .entry)) (now (root .entry)) (now (level .entry)))
+        count depth out n
+        (plant (now (last .exit)) (now (root .exit)) (now (level .exit)))
+        r ⌝ }
 {
     let most = room.devices;
     let x = device_refusal(n, depth, most, count);
@@ -85,10 +90,14 @@ fn device(
     root: &mut [u16],
     level: &mut [u8],
 ) -> Ending
-    requires { ⌜ Stands (now text) at (line + 1) (count + 1) ⌝ }
+    requires { ⌜ ReadingAt (now text) at (line + 1) (count + 1) ⌝ }
     requires { ⌜ Fits room (plant (now last) (now root) (now level)) ⌝ }
     requires { ⌜ count ≤ room .devices ⌝ }
-    ensures { λ r. ⌜ DeviceRead room (now (text .entry)) (plant (now (last .entry)) (now (root .entry)) (now (level .entry))) n at line count depth top (plant (now (last .exit)) (now (root .exit)) (now (level .exit))) r ⌝ }
+    ensures reads { λ r. ⌜ DeviceRead room (now (text .entry))
+        (plant (now (last .entry)) (now (root .entry)) (now (level .entry)))
+        n at line count depth top
+        (plant (now (last .exit)) (now (root .exit)) (now (level .exit)))
+        r ⌝ }
 {
     let own = (count + 1) as u16;
     let out = outer(depth, top, own);
@@ -135,10 +144,14 @@ pub fn devices(
     root: &mut [u16],
     level: &mut [u8],
 ) -> Listed
-    requires { ⌜ Stands (now text) at line count ⌝ }
+    requires { ⌜ ReadingAt (now text) at line count ⌝ }
     requires { ⌜ Fits room (plant (now last) (now root) (now level)) ⌝ }
     requires { ⌜ count ≤ room .devices ⌝ }
-    ensures { λ r. ⌜ ListRead room (now (text .entry)) (plant (now (last .entry)) (now (root .entry)) (now (level .entry))) at line count depth top (plant (now (last .exit)) (now (root .exit)) (now (level .exit))) r ⌝ }
+    ensures reads { λ r. ⌜ ListRead room (now (text .entry))
+        (plant (now (last .entry)) (now (root .entry)) (now (level .entry)))
+        at line count depth top
+        (plant (now (last .exit)) (now (root .exit)) (now (level .exit)))
+        r ⌝ }
 {
     let mut a = at;
     let mut k = line;

@@ -1,20 +1,21 @@
 // Reads plant text into lent tables.
 ghost use mathlib.Core.Path.{_≡_};
 ghost use mathlib.Core.List.{_++_};
-ghost use Prim.Native.Nat.{_-_, _≤_, min};
+ghost use Prim.Native.Nat.{_-_, _≤_};
 ghost use lib.ListN.{length, take, replicate};
 ghost use Rattle.plant.specs.Plant.{plant};
 ghost use Rattle.index.specs.Index.{index};
-ghost use Rattle.plant_text.specs.PlantText.{places, room, read-plant, outcome-of, «plant-after», «index-after»};
-ghost use Rattle.plant_text.specs.Devices.{Fits};
-ghost use Rattle.plant_text.specs.Terms.{FitsIndex};
-ghost use Rattle.plant_text.specs.Whole.{«devices-of», «terms-of», «postings-of», ReadAll};
+ghost use Rattle.plant_text.specs.PlantText.{places, «outcome-after», «plant-after», «index-after»};
+ghost use Rattle.plant_text.specs.inner.Devices.{Fits};
+ghost use Rattle.plant_text.specs.inner.Terms.{FitsIndex};
+ghost use Rattle.plant_text.specs.inner.Whole.{«devices-in», «terms-in», «postings-in», ReadAll};
 use crate::devices::Listed;
 use crate::devices::devices;
 use crate::lines::line_at;
 use crate::lines::start_refusal;
 use crate::terms::Closing;
 use crate::terms::read_terms;
+use integers::least;
 
 mod devices;
 mod lines;
@@ -43,9 +44,17 @@ pub fn read(
     starts: &mut [u32],
     postings: &mut [u32],
 ) -> Outcome
-    ensures outcome { λ r. ⌜ r ≡ outcome-of (read-plant (room (plant (now (last .entry)) (now (root .entry)) (now (level .entry))) (index (now (terms .entry)) (now (starts .entry)) (now (postings .entry)))) (now (text .entry))) ⌝ }
-    ensures plant { λ _. ⌜ plant (now (last .exit)) (now (root .exit)) (now (level .exit)) ≡ «plant-after» (now (text .entry)) (plant (now (last .entry)) (now (root .entry)) (now (level .entry))) (index (now (terms .entry)) (now (starts .entry)) (now (postings .entry))) ⌝ }
-    ensures index { λ _. ⌜ index (now (terms .exit)) (now (starts .exit)) (now (postings .exit)) ≡ «index-after» (now (text .entry)) (plant (now (last .entry)) (now (root .entry)) (now (level .entry))) (index (now (terms .entry)) (now (starts .entry)) (now (postings .entry))) ⌝ }
+    ensures outcome { λ r. ⌜ r ≡ «outcome-after» (now (text .entry))
+        (plant (now (last .entry)) (now (root .entry)) (now (level .entry)))
+        (index (now (terms .entry)) (now (starts .entry)) (now (postings .entry))) ⌝ }
+    ensures plant { λ _. ⌜ plant (now (last .exit)) (now (root .exit)) (now (level .exit))
+        ≡ «plant-after» (now (text .entry))
+        (plant (now (last .entry)) (now (root .entry)) (now (level .entry)))
+        (index (now (terms .entry)) (now (starts .entry)) (now (postings .entry))) ⌝ }
+    ensures index { λ _. ⌜ index (now (terms .exit)) (now (starts .exit)) (now (postings .exit))
+        ≡ «index-after» (now (text .entry))
+        (plant (now (last .entry)) (now (root .entry)) (now (level .entry)))
+        (index (now (terms .entry)) (now (starts .entry)) (now (postings .entry))) ⌝ }
 {
     let room = room_of(
         last.len(),
@@ -68,12 +77,6 @@ pub fn read(
     r
 }
 
-fn least(a: usize, b: usize) -> usize
-    ensures { λ r. ⌜ r ≡ min a b ⌝ }
-{
-    if a < b { a } else { b }
-}
-
 // The room of tables of these lengths.
 fn room_of(
     last: usize,
@@ -94,7 +97,7 @@ fn room_of(
     }
 }
 
-// Reads a text into the tables, and leaves what stands beyond the counts.
+// Reads a text into the tables, and leaves what is beyond the counts.
 fn read_all(
     text: &[u8],
     room: Room,
@@ -107,7 +110,10 @@ fn read_all(
 ) -> Outcome
     requires { ⌜ Fits room (plant (now last) (now root) (now level)) ⌝ }
     requires { ⌜ FitsIndex room (index (now terms) (now starts) (now postings)) ⌝ }
-    ensures { λ r. ⌜ ReadAll room (now (text .entry)) (plant (now (last .exit)) (now (root .exit)) (now (level .exit))) (index (now (terms .exit)) (now (starts .exit)) (now (postings .exit))) r ⌝ }
+    ensures reads { λ r. ⌜ ReadAll room (now (text .entry))
+        (plant (now (last .exit)) (now (root .exit)) (now (level .exit)))
+        (index (now (terms .exit)) (now (starts .exit)) (now (postings .exit)))
+        r ⌝ }
 {
     if 65536 < text.len() {
         return Outcome::Refused(20, 0);
@@ -136,7 +142,7 @@ fn read_all(
 }
 
 fn devices_in(r: Outcome) -> usize
-    ensures { λ n. ⌜ n ≡ «devices-of» r ⌝ }
+    ensures { λ n. ⌜ n ≡ «devices-in» r ⌝ }
 {
     match r {
         Outcome::Made(d, _, _) => d,
@@ -145,7 +151,7 @@ fn devices_in(r: Outcome) -> usize
 }
 
 fn terms_in(r: Outcome) -> usize
-    ensures { λ n. ⌜ n ≡ «terms-of» r ⌝ }
+    ensures { λ n. ⌜ n ≡ «terms-in» r ⌝ }
 {
     match r {
         Outcome::Made(_, n, _) => n,
@@ -154,7 +160,7 @@ fn terms_in(r: Outcome) -> usize
 }
 
 fn postings_in(r: Outcome) -> usize
-    ensures { λ n. ⌜ n ≡ «postings-of» r ⌝ }
+    ensures { λ n. ⌜ n ≡ «postings-in» r ⌝ }
 {
     match r {
         Outcome::Made(_, _, p) => p,

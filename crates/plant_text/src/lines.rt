@@ -3,7 +3,7 @@ ghost use mathlib.Core.Path.{_≡_};
 ghost use Prim.Native.Nat.{_≤_};
 ghost use lib.ListN.{length};
 ghost use Rattle.plant_text.specs.Form.{form};
-ghost use Rattle.plant_text.specs.Rest.{«capped-form», Lexed, «level-of», «term-of», «posting-of», «end-refusal», «start-refusal»};
+ghost use Rattle.plant_text.specs.inner.Rest.{«capped-form», Lexed, «level-of», «term-of», «posting-of», «end-refusal», «start-refusal»};
 ghost use Rattle.plant_text.specs.declared.lines.Form.the-variants.{Close};
 use text::Number;
 

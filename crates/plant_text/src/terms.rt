@@ -5,14 +5,16 @@ ghost use Prim.Native.Nat.{_-_, _/_, _≤_, _<_};
 ghost use lib.Dec.{leb, ltb, eqb};
 ghost use lib.ListN.{length, take};
 ghost use lib.Seq.{slice};
+ghost use Rattle.laws.specs.Limits.{«most-devices», «highest-term»};
 ghost use Rattle.laws.specs.Rows.{pick};
 ghost use Rattle.laws.specs.Tables.{entry};
 ghost use Rattle.laws.specs.inner.Entries.{IsEntry};
 ghost use Rattle.index.specs.Postings.{device, shared, reach};
 ghost use Rattle.index.specs.Index.{index};
-ghost use Rattle.plant_text.specs.PlantText.{posting};
-ghost use Rattle.plant_text.specs.Rest.{Stands};
-ghost use Rattle.plant_text.specs.Terms.{Sound, Adds, PostsRead, OpensTerm, TermsRead, TermsStart};
+ghost use Rattle.index.specs.inner.Lists.{SoundList};
+ghost use Rattle.plant_text.specs.PlantText.{«longest-text», posting};
+ghost use Rattle.plant_text.specs.inner.Rest.{ReadingAt};
+ghost use Rattle.plant_text.specs.inner.Terms.{Adds, PostsRead, OpensTerm, TermsRead, TermsStart};
 use crate::Room;
 use crate::lines::Ending;
 use crate::lines::Form;
@@ -55,7 +57,7 @@ fn reach_of(last: &[u16], q: u32) -> u32
 
 // The posting for device d.
 fn posting_for(d: u64, shared: bool) -> u32
-    requires { ⌜ d ≤ 65535 ⌝ }
+    requires { ⌜ d ≤ «most-devices» ⌝ }
     ensures { λ r. ⌜ r ≡ posting d shared ⌝ }
 {
     let twice = 2 * d as u32;
@@ -96,8 +98,8 @@ fn add_posting(
     last: &[u16],
     postings: &mut [u32],
 ) -> u32
-    requires { ⌜ (count ≤ length (now last)) × (count < 65536) × (begin ≤ n) × (n ≤ room .postings) × (room .postings ≤ length (now postings)) ⌝ }
-    requires { ⌜ Sound (take count (now last)) (slice begin n (now postings)) ⌝ }
+    requires { ⌜ (count ≤ length (now last)) × (count ≤ «most-devices») × (begin ≤ n) × (n ≤ room .postings) × (room .postings ≤ length (now postings)) ⌝ }
+    requires { ⌜ SoundList (take count (now last)) (slice begin n (now postings)) ⌝ }
     ensures { λ r. ⌜ Adds room (now (last .entry)) (now (postings .entry)) count begin n d shared (now (postings .exit)) r ⌝ }
 {
     let most = room.postings;
@@ -122,7 +124,7 @@ fn read_postings(
     last: &[u16],
     postings: &mut [u32],
 ) -> Ending
-    requires { ⌜ Stands (now text) at line begin ⌝ }
+    requires { ⌜ ReadingAt (now text) at line begin ⌝ }
     requires { ⌜ (count < at) × (count ≤ length (now last)) × (begin ≤ room .postings) × (room .postings ≤ length (now postings)) ⌝ }
     ensures { λ r. ⌜ PostsRead room (now (text .entry)) (now (last .entry)) (now (postings .entry)) at line count begin (now (postings .exit)) r ⌝ }
 {
@@ -160,7 +162,7 @@ fn newest_term(terms: &[u16], n: usize) -> u16
 
 // Why a term of number v does not open after `newest`, after `count` of the `most` that there is room for; or 0.
 fn term_refusal(v: u64, most: usize, count: usize, newest: u16) -> u32
-    ensures { λ r. ⌜ r ≡ pick (eqb v 0 || ltb 65535 v) 22 (pick (leb most count) 27 (pick (leb v newest) 28 0)) ⌝ }
+    ensures { λ r. ⌜ r ≡ pick (eqb v 0 || ltb «highest-term» v) 22 (pick (leb most count) 27 (pick (leb v newest) 28 0)) ⌝ }
 {
     if v == 0 {
         return 22;
@@ -179,7 +181,7 @@ fn term_refusal(v: u64, most: usize, count: usize, newest: u16) -> u32
 
 // Opens term n + 1, of number v, with p postings before it. Returns 0, or why it is refused.
 fn open_term(room: Room, v: u64, n: usize, p: usize, terms: &mut [u16], starts: &mut [u32]) -> u32
-    requires { ⌜ (n ≤ room .terms) × (room .terms ≤ length (now terms)) × (room .terms ≤ length (now starts)) × (p < 65536) ⌝ }
+    requires { ⌜ (n ≤ room .terms) × (room .terms ≤ length (now terms)) × (room .terms ≤ length (now starts)) × (p < «longest-text») ⌝ }
     ensures { λ r. ⌜ OpensTerm room (now (terms .entry)) (now (starts .entry)) n p v (now (terms .exit)) (now (starts .exit)) r ⌝ }
 {
     let most = room.terms;
@@ -206,8 +208,14 @@ pub fn read_terms(
     starts: &mut [u32],
     postings: &mut [u32],
 ) -> Closing
-    requires { ⌜ TermsStart room (now text) (now last) count (index (now terms) (now starts) (now postings)) form next line ⌝ }
-    ensures { λ r. ⌜ TermsRead room (now (text .entry)) (now (last .entry)) count (index (now (terms .entry)) (now (starts .entry)) (now (postings .entry))) form next line (index (now (terms .exit)) (now (starts .exit)) (now (postings .exit))) r ⌝ }
+    requires { ⌜ TermsStart room (now text) (now last) count
+        (index (now terms) (now starts) (now postings))
+        form next line ⌝ }
+    ensures reads { λ r. ⌜ TermsRead room (now (text .entry)) (now (last .entry)) count
+        (index (now (terms .entry)) (now (starts .entry)) (now (postings .entry)))
+        form next line
+        (index (now (terms .exit)) (now (starts .exit)) (now (postings .exit)))
+        r ⌝ }
 {
     let mut f = form;
     let mut a = next;

@@ -1,6 +1,6 @@
 // Reads texts and prints what comes of them: document 01's plant P, an example of each refusal, 32 and 33 tiers, and tables with exactly
 // enough room and with one place too few.
-ghost use Prim.Native.Nat.{_≤_};
+use integers::least;
 use libc::STDOUT_FILENO;
 use plant_text::Outcome;
 
@@ -116,12 +116,6 @@ fn tiers(name: &[u8], text: &[u8]) {
         &mut postings,
     );
     tell(name, r);
-}
-
-fn least(a: usize, b: usize) -> usize
-    ensures { λ r. ⌜ (r ≤ b) ⌝ }
-{
-    if a < b { a } else { b }
 }
 
 // Reads plant P into tables with so many places each, at most eight.
@@ -274,15 +268,38 @@ fn orders() {
 fn deep() {
     tiers(
         b"32 tiers",
-        b"(plant\n(dev 0\n(dev 0\n(dev 0\n(dev 0\n(dev 0\n(dev 0\n(dev 0\n(dev 0\n(dev 0\n(dev 0\n(dev 0\n(dev 0\n(dev 0\n(dev 0\n(dev 0\n(dev 0\n(dev 0\n(dev 0\n(dev 0\n(dev 0\n(dev 0\n(dev 0\n(dev 0\n(dev 0\n(dev 0\n(dev 0\n(dev 0\n(dev 0\n(dev 0\n(dev 0\n(dev 0\n(dev 0\n)\n)\n)\n)\n)\n)\n)\n)\n)\n)\n)\n)\n)\n)\n)\n)\n)\n)\n)\n)\n)\n)\n)\n)\n)\n)\n)\n)\n)\n)\n)\n)\n)\n",
+        b"(plant\n\
+        (dev 0\n(dev 0\n(dev 0\n(dev 0\n(dev 0\n(dev 0\n(dev 0\n(dev 0\n\
+        (dev 0\n(dev 0\n(dev 0\n(dev 0\n(dev 0\n(dev 0\n(dev 0\n(dev 0\n\
+        (dev 0\n(dev 0\n(dev 0\n(dev 0\n(dev 0\n(dev 0\n(dev 0\n(dev 0\n\
+        (dev 0\n(dev 0\n(dev 0\n(dev 0\n(dev 0\n(dev 0\n(dev 0\n(dev 0\n\
+        )\n)\n)\n)\n)\n)\n)\n)\n)\n)\n)\n)\n)\n)\n)\n)\n\
+        )\n)\n)\n)\n)\n)\n)\n)\n)\n)\n)\n)\n)\n)\n)\n)\n\
+        )\n",
     );
     tiers(
         b"33 tiers",
-        b"(plant\n(dev 0\n(dev 0\n(dev 0\n(dev 0\n(dev 0\n(dev 0\n(dev 0\n(dev 0\n(dev 0\n(dev 0\n(dev 0\n(dev 0\n(dev 0\n(dev 0\n(dev 0\n(dev 0\n(dev 0\n(dev 0\n(dev 0\n(dev 0\n(dev 0\n(dev 0\n(dev 0\n(dev 0\n(dev 0\n(dev 0\n(dev 0\n(dev 0\n(dev 0\n(dev 0\n(dev 0\n(dev 0\n(dev 0\n)\n)\n)\n)\n)\n)\n)\n)\n)\n)\n)\n)\n)\n)\n)\n)\n)\n)\n)\n)\n)\n)\n)\n)\n)\n)\n)\n)\n)\n)\n)\n)\n)\n)\n",
+        b"(plant\n\
+        (dev 0\n(dev 0\n(dev 0\n(dev 0\n(dev 0\n(dev 0\n(dev 0\n(dev 0\n\
+        (dev 0\n(dev 0\n(dev 0\n(dev 0\n(dev 0\n(dev 0\n(dev 0\n(dev 0\n\
+        (dev 0\n(dev 0\n(dev 0\n(dev 0\n(dev 0\n(dev 0\n(dev 0\n(dev 0\n\
+        (dev 0\n(dev 0\n(dev 0\n(dev 0\n(dev 0\n(dev 0\n(dev 0\n(dev 0\n\
+        (dev 0\n\
+        )\n)\n)\n)\n)\n)\n)\n)\n)\n)\n)\n)\n)\n)\n)\n)\n\
+        )\n)\n)\n)\n)\n)\n)\n)\n)\n)\n)\n)\n)\n)\n)\n)\n\
+        )\n)\n",
     );
     tiers(
         b"33 tiers, level 256",
-        b"(plant\n(dev 0\n(dev 0\n(dev 0\n(dev 0\n(dev 0\n(dev 0\n(dev 0\n(dev 0\n(dev 0\n(dev 0\n(dev 0\n(dev 0\n(dev 0\n(dev 0\n(dev 0\n(dev 0\n(dev 0\n(dev 0\n(dev 0\n(dev 0\n(dev 0\n(dev 0\n(dev 0\n(dev 0\n(dev 0\n(dev 0\n(dev 0\n(dev 0\n(dev 0\n(dev 0\n(dev 0\n(dev 0\n(dev 256\n)\n)\n)\n)\n)\n)\n)\n)\n)\n)\n)\n)\n)\n)\n)\n)\n)\n)\n)\n)\n)\n)\n)\n)\n)\n)\n)\n)\n)\n)\n)\n)\n)\n)\n",
+        b"(plant\n\
+        (dev 0\n(dev 0\n(dev 0\n(dev 0\n(dev 0\n(dev 0\n(dev 0\n(dev 0\n\
+        (dev 0\n(dev 0\n(dev 0\n(dev 0\n(dev 0\n(dev 0\n(dev 0\n(dev 0\n\
+        (dev 0\n(dev 0\n(dev 0\n(dev 0\n(dev 0\n(dev 0\n(dev 0\n(dev 0\n\
+        (dev 0\n(dev 0\n(dev 0\n(dev 0\n(dev 0\n(dev 0\n(dev 0\n(dev 0\n\
+        (dev 256\n\
+        )\n)\n)\n)\n)\n)\n)\n)\n)\n)\n)\n)\n)\n)\n)\n)\n\
+        )\n)\n)\n)\n)\n)\n)\n)\n)\n)\n)\n)\n)\n)\n)\n)\n\
+        )\n)\n",
     );
 }
 

@@ -49,7 +49,12 @@ fn queries() {
 
 fn deep_plant() {
     plant(
-        b"(plant\n(dev 0\n(dev 0\n(dev 0\n(dev 0\n(dev 0\n(dev 0\n(dev 0\n(dev 0\n(dev 0\n(dev 0\n(dev 0\n(dev 0\n(dev 0\n(dev 0\n(dev 0\n(dev 0\n(dev 0\n(dev 0\n(dev 0\n(dev 0\n(dev 0\n(dev 0\n(dev 0\n(dev 0\n(dev 0\n(dev 0\n(dev 0\n(dev 0\n(dev 0\n(dev 0\n(dev 0\n(dev 0\n(dev 0\n",
+        b"(plant\n\
+        (dev 0\n(dev 0\n(dev 0\n(dev 0\n(dev 0\n(dev 0\n(dev 0\n(dev 0\n\
+        (dev 0\n(dev 0\n(dev 0\n(dev 0\n(dev 0\n(dev 0\n(dev 0\n(dev 0\n\
+        (dev 0\n(dev 0\n(dev 0\n(dev 0\n(dev 0\n(dev 0\n(dev 0\n(dev 0\n\
+        (dev 0\n(dev 0\n(dev 0\n(dev 0\n(dev 0\n(dev 0\n(dev 0\n(dev 0\n\
+        (dev 0\n",
     );
 }
 

@@ -10,7 +10,7 @@ use lib.ListN.{length, length-append}
 use Rattle.laws.proofs.Tests.{flags}
 use Rattle.laws.proofs.Cases.{either, by-order}
 use Rattle.respond.specs.Decimal.{digits, decimal}
-use Rattle.respond.specs.Puts.{Room, Puts}
+use Rattle.respond.specs.inner.Puts.{Room, Puts}
 use Rattle.respond.proofs.Writing.{_then_, room-first, room-second}
 
 -- no more digits are looked for than there are

@@ -7,7 +7,7 @@ use native.Mathlib.Numerals.{add-one}
 use lib.ListN.{length, take, getD, length-append}
 use lib.Seq.{take-suc, take-all}
 use Rattle.respond.specs.Lines.{word-device, numbered, device-lines}
-use Rattle.respond.specs.Puts.{Room, Puts}
+use Rattle.respond.specs.inner.Puts.{Room, Puts}
 use Rattle.respond.proofs.Writing.{_then_}
 use Rattle.respond.proofs.Decimals.{decimal-short}
 

@@ -9,14 +9,14 @@ use Rattle.plant.specs.Plant.{Plant}
 use Rattle.index.specs.Index.{Index}
 use Rattle.steps.specs.Steps.{End}
 use Rattle.query.specs.declared.Query.{Query}
-use Rattle.search.specs.Answer.{told, written}
+use Rattle.search.specs.Answer.{answer-of, written}
 use Rattle.search.specs.declared.Answer.{Answer}
 use Rattle.text.specs.Reading.{made, no}
 use Rattle.plant_text.specs.PlantText as plant-texts
 use Rattle.plant_text.specs.PlantText.{State}
 use Rattle.query_text.specs.QueryText as query-texts
 use Rattle.respond.specs.Lines.{word-plant, word-ask, word-query, numbered, numbered₂, answer-text}
-use Rattle.respond.specs.Puts.{Room, Puts}
+use Rattle.respond.specs.inner.Puts.{Room, Puts}
 use Rattle.respond.specs.Respond.{program-room, of-run, of-search, of-query, of-query-text, respond, Responds}
 use Rattle.respond.proofs.Decimals.{decimal-short}
 
@@ -26,16 +26,16 @@ numbered₂-room w {n} {m} h g r =
     record { room = simp (length-append) (omega (arith, decimal-short 9 n h, decimal-short 9 m g)) }
 
 -- the search refuses the query, or lists
-pub run-refused : (a : Answer) (n : ℕ) (e : End) → a ≡ told n e → (a .refusal ≡ 0 → ⊥) → numbered word-query (a .refusal) ≡ of-run n e
+pub run-refused : (a : Answer) (n : ℕ) (e : End) → a ≡ answer-of n e → (a .refusal ≡ 0 → ⊥) → numbered word-query (a .refusal) ≡ of-run n e
 run-refused a zero e t h = absurd (h (ap (λ x. x .refusal) t))
 run-refused a (suc n) e t h = rw t
 
-pub run-listed : (a : Answer) (n : ℕ) (e : End) (out out′ : List ℕ) → a ≡ told n e → out′ ≡ written n e out → a .refusal ≡ 0 →
+pub run-listed : (a : Answer) (n : ℕ) (e : End) (out out′ : List ℕ) → a ≡ answer-of n e → out′ ≡ written n e out → a .refusal ≡ 0 →
     answer-text (take (a .count) out′) (a .position) (a .moves) ≡ of-run n e
 run-listed a zero e out out′ t w h = rw (t, w, take-append-seam)
 run-listed a (suc n) e out out′ t w h = absurd (omega (arith, ap (λ x. x .refusal) t))
 
-pub run-count : (a : Answer) (n : ℕ) (e : End) (out out′ : List ℕ) → a ≡ told n e → out′ ≡ written n e out → a .count ≤ length out′
+pub run-count : (a : Answer) (n : ℕ) (e : End) (out out′ : List ℕ) → a ≡ answer-of n e → out′ ≡ written n e out → a .count ≤ length out′
 run-count a zero e out out′ t w = rw (t, w, length-append) (omega arith)
 run-count a (suc n) e out out′ t w = rw t (omega arith)
 

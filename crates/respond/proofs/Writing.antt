@@ -6,7 +6,7 @@ use native.Mathlib.Omega.{arith}
 use native.Mathlib.Numerals.{add-one}
 use lib.ListN.{length, take, set, getD, length-append, length-set}
 use lib.Seq.{sets, length-sets, take-suc, take-all, length-take-le}
-use Rattle.respond.specs.Puts.{Room, Puts}
+use Rattle.respond.specs.inner.Puts.{Room, Puts}
 
 sets-append : (a b l : List ℕ) (i : ℕ) → sets (sets l i a) (i + length a) b ≡ sets l i (a ++ b)
 sets-append [] b l i = let e : i + 0 ≡ i = omega arith in rw e

@@ -1,4 +1,5 @@
+pub mod Limits
 pub mod Decimal
 pub mod Lines
-pub mod Puts
 pub mod Respond
+pub mod inner

@@ -14,11 +14,12 @@ use Rattle.plant_text.specs.PlantText.{State}
 use Rattle.plant_text.specs.declared.Room.{Room}
 use Rattle.query_text.specs.QueryText as query-texts
 use Rattle.query_text.specs.declared.QueryRead.{QueryRead}
+use Rattle.respond.specs.Limits.{device-room, term-room, posting-room}
 use Rattle.respond.specs.Lines.{word-plant, word-ask, word-query, numbered, numbered₂, answer-text}
 
--- "with room for 1,024 devices, 256 marks and 4,096 postings"; the answer list has room for 1,024 devices too
+-- the room of the tables that the program lends
 abbrev pub program-room : Room
-program-room = record { devices = 1024; terms = 256; postings = 4096 }
+program-room = record { devices = device-room; terms = term-room; postings = posting-room }
 
 -- `(refused query 13)`, or the answer
 abbrev pub of-run : ℕ → End → List ℕ
@@ -26,7 +27,7 @@ of-run zero e = answer-text (e .listed) (e .position) (e .counts .moves)
 of-run (suc n) e = numbered word-query (suc n)
 
 abbrev pub of-search : Plant → Index → Query → List ℕ
-of-search P I q = of-run (search-refusal P I q 1024) (ended P I q (q .budget))
+of-search P I q = of-run (search-refusal P I q device-room) (ended P I q (q .budget))
 
 -- `(refused ask 31 2)`, or what the search of the query comes to
 abbrev pub of-query : Plant → Index → ℕ → ℕ → Query → List ℕ

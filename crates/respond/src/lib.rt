@@ -11,7 +11,8 @@ ghost use lib.ListN.{length};
 ghost use Rattle.plant.specs.Plant.{plant};
 ghost use Rattle.index.specs.Index.{index};
 ghost use Rattle.query_text.specs.QueryText as «query-texts»;
-ghost use Rattle.respond.specs.Puts.{Puts};
+ghost use Rattle.respond.specs.inner.Puts.{Puts};
+ghost use Rattle.respond.specs.Limits.{«buffer-room»};
 ghost use Rattle.respond.specs.Respond.{«of-search», «of-query-text», Responds};
 
 // Writes the answer to a query text over a plant text, or why one of them is refused, at the front of the buffer. Returns how many bytes.
@@ -58,8 +59,13 @@ fn respond_query(
     query: &[u8],
     out: &mut [u8; 16384],
 ) -> usize
-    ensures { λ r. ⌜ Puts (now (out .entry)) 0 («of-query-text» (plant (now (last .entry)) (now (root .entry)) (now (level .entry))) (index (now (terms .entry)) (now (starts .entry)) (now (postings .entry))) («query-texts».read-query (now (query .entry)))) (now (out .exit)) r ⌝ }
-    ensures { λ _. ⌜ length (now (out .entry)) ≡ 16384 ⌝ }
+    ensures puts { λ r. ⌜ Puts (now (out .entry)) 0
+        («of-query-text»
+        (plant (now (last .entry)) (now (root .entry)) (now (level .entry)))
+        (index (now (terms .entry)) (now (starts .entry)) (now (postings .entry)))
+        («query-texts».read-query (now (query .entry))))
+        (now (out .exit)) r ⌝ }
+    ensures whole { λ _. ⌜ length (now (out .entry)) ≡ «buffer-room» ⌝ }
 {
     let asked = query_text::read(query);
     let refusal = asked.refusal;
@@ -81,8 +87,13 @@ fn respond_search(
     query: Query,
     out: &mut [u8; 16384],
 ) -> usize
-    ensures { λ r. ⌜ Puts (now (out .entry)) 0 («of-search» (plant (now (last .entry)) (now (root .entry)) (now (level .entry))) (index (now (terms .entry)) (now (starts .entry)) (now (postings .entry))) query) (now (out .exit)) r ⌝ }
-    ensures { λ _. ⌜ length (now (out .entry)) ≡ 16384 ⌝ }
+    ensures puts { λ r. ⌜ Puts (now (out .entry)) 0
+        («of-search»
+        (plant (now (last .entry)) (now (root .entry)) (now (level .entry)))
+        (index (now (terms .entry)) (now (starts .entry)) (now (postings .entry)))
+        query)
+        (now (out .exit)) r ⌝ }
+    ensures whole { λ _. ⌜ length (now (out .entry)) ≡ «buffer-room» ⌝ }
 {
     let mut listing = [0u16; 1024];
     let a = search::search(

@@ -3,9 +3,10 @@ ghost use mathlib.Core.Path.{_≡_};
 ghost use Prim.Native.Nat.{_+_, _*_, _≤_};
 ghost use mathlib.Core.List.{[], _∷_};
 ghost use lib.ListN.{length};
+ghost use Rattle.respond.specs.Limits.{«device-room», «buffer-room»};
 ghost use Rattle.respond.specs.Decimal.{decimal};
 ghost use Rattle.respond.specs.Lines.{«word-device», numbered, «numbered₂», «device-lines», «answer-text»};
-ghost use Rattle.respond.specs.Puts.{Room, Puts};
+ghost use Rattle.respond.specs.inner.Puts.{Room, Puts};
 
 pub fn put_byte(out: &mut [u8; 16384], at: usize, b: u8) -> usize
     requires { ⌜ Room at (b ∷ []) ⌝ }
@@ -18,7 +19,7 @@ pub fn put_byte(out: &mut [u8; 16384], at: usize, b: u8) -> usize
 // Takes the buffer as a slice: whoever lends an array so learns its length.
 pub fn put_word(out: &mut [u8], at: usize, word: &[u8]) -> usize
     requires { ⌜ Room at (now word) ⌝ }
-    requires { ⌜ length (now out) ≡ 16384 ⌝ }
+    requires { ⌜ length (now out) ≡ «buffer-room» ⌝ }
     ensures { λ r. ⌜ Puts (now (out .entry)) at (now (word .entry)) (now (out .exit)) r ⌝ }
 {
     let mut i = 0;
@@ -45,7 +46,7 @@ pub fn put_number(out: &mut [u8; 16384], at: usize, n: u32) -> usize
 pub fn put_numbered(out: &mut [u8; 16384], at: usize, word: &[u8], n: u32) -> usize
     requires { ⌜ Room at (numbered (now word) n) ⌝ }
     ensures { λ r. ⌜ Puts (now (out .entry)) at (numbered (now (word .entry)) n) (now (out .exit)) r ⌝ }
-    ensures { λ _. ⌜ length (now (out .entry)) ≡ 16384 ⌝ }
+    ensures { λ _. ⌜ length (now (out .entry)) ≡ «buffer-room» ⌝ }
 {
     let first = put_word(out, at, word);
     let next = put_number(out, first, n);
@@ -56,7 +57,7 @@ pub fn put_numbered(out: &mut [u8; 16384], at: usize, word: &[u8], n: u32) -> us
 pub fn put_numbered_twice(out: &mut [u8; 16384], at: usize, word: &[u8], n: u32, m: u32) -> usize
     requires { ⌜ Room at («numbered₂» (now word) n m) ⌝ }
     ensures { λ r. ⌜ Puts (now (out .entry)) at («numbered₂» (now (word .entry)) n m) (now (out .exit)) r ⌝ }
-    ensures { λ _. ⌜ length (now (out .entry)) ≡ 16384 ⌝ }
+    ensures { λ _. ⌜ length (now (out .entry)) ≡ «buffer-room» ⌝ }
 {
     let first = put_word(out, at, word);
     let next = put_number(out, first, n);
@@ -65,7 +66,7 @@ pub fn put_numbered_twice(out: &mut [u8; 16384], at: usize, word: &[u8], n: u32,
 
 // The line of a device.
 fn put_device(out: &mut [u8; 16384], at: usize, d: u16) -> usize
-    requires { ⌜ at + 15 ≤ 16384 ⌝ }
+    requires { ⌜ at + 15 ≤ «buffer-room» ⌝ }
     ensures { λ r. ⌜ Puts (now (out .entry)) at (numbered «word-device» d) (now (out .exit)) r ⌝ }
     ensures { λ r. ⌜ r ≤ at + 15 ⌝ }
 {
@@ -74,7 +75,7 @@ fn put_device(out: &mut [u8; 16384], at: usize, d: u16) -> usize
 
 // The lines of a listing.
 fn put_devices(out: &mut [u8; 16384], at: usize, listing: &[u16]) -> usize
-    requires { ⌜ at + 15 * length (now listing) ≤ 16384 ⌝ }
+    requires { ⌜ at + 15 * length (now listing) ≤ «buffer-room» ⌝ }
     ensures { λ r. ⌜ Puts (now (out .entry)) at («device-lines» (now (listing .entry))) (now (out .exit)) r ⌝ }
     ensures { λ r. ⌜ r ≤ at + 15 * length (now (listing .entry)) ⌝ }
 {
@@ -89,9 +90,9 @@ fn put_devices(out: &mut [u8; 16384], at: usize, listing: &[u16]) -> usize
 
 // The whole of an answer, from the start of the buffer.
 pub fn put_answer(out: &mut [u8; 16384], listing: &[u16], position: u32, moves: u32) -> usize
-    requires { ⌜ length (now listing) ≤ 1024 ⌝ }
+    requires { ⌜ length (now listing) ≤ «device-room» ⌝ }
     ensures { λ r. ⌜ Puts (now (out .entry)) 0 («answer-text» (now (listing .entry)) position moves) (now (out .exit)) r ⌝ }
-    ensures { λ _. ⌜ length (now (out .entry)) ≡ 16384 ⌝ }
+    ensures { λ _. ⌜ length (now (out .entry)) ≡ «buffer-room» ⌝ }
 {
     let first = put_word(out, 0, b"(answer\n");
     let devices = put_devices(out, first, listing);

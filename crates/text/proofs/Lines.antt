@@ -1,58 +1,61 @@
 -- The bytes before a byte, and the line at an index of a text.
-use Prim.Native.Nat.{ℕ, zero, suc, _+_, _-_, _<_, _≤_, min}
+use Prim.Native.Nat.{ℕ, suc, _+_, _-_, _<_, _≤_, min}
 use mathlib.Core.Path.{_≡_, refl, ap, _∙_}
-use mathlib.Core.Bool.{cond}
+use mathlib.Core.Bool.{true, false}
 use mathlib.Core.List.{List, [], _∷_}
 use lib.Dec.{eqb}
-use lib.ListN.{length, getD, take, drop, length-take, length-drop, drop-of-length-le}
+use lib.ListN.{length, getD, take, drop, length-take, length-drop}
 use lib.Seq.{drop-cons, drop-length, take-all, drop-drop}
 use native.Mathlib.Numerals.{add-one}
 use native.Mathlib.Omega.{arith}
 use borrow.Author.Tests.{eq-eqb, ne-eqb}
-use Rattle.laws.proofs.Cases.{either, by-order}
+use Rattle.laws.specs.Front.{until}
+use Rattle.laws.proofs.Cases.{either}
+use Rattle.laws.proofs.Lists.{drop-clamped}
 use Rattle.text.specs.Lines.{lines, bytes-before, line-at}
+
+-- the first byte is b, or it is not
+module _ (b x : ℕ) (xs : List ℕ) where
+  before-found : eqb x b ≡ true → bytes-before b (x ∷ xs) ≡ 0
+  unfolding until
+  before-found e = rw (e, until)
+
+  before-more : eqb x b ≡ false → bytes-before b (x ∷ xs) ≡ suc (bytes-before b xs)
+  unfolding until
+  before-more e = rw (e, until)
 
 -- none of the first i bytes of s is b
 pub record Passed (b : ℕ) (s : List ℕ) (i : ℕ) : Type 0 where
   pub within : i ≤ length s
   pub known : bytes-before b s ≡ i + bytes-before b (drop i s)
 
-module _ (b : ℕ) (s : List ℕ) where
-  pub passed-none : Passed b s 0
-  passed-none = record { within = omega arith; known = omega arith }
-
-  before-more : (i : ℕ) → i < length s → bytes-before b (drop i s) ≡ cond (eqb (getD s i 0) b) zero (suc (bytes-before b (drop (i + 1) s)))
-  unfolding bytes-before
-  before-more i h = rw (add-one, drop-cons s i 0)
+pub passed-none : (b : ℕ) (s : List ℕ) → Passed b s 0
+passed-none b s = record { within = omega arith; known = omega arith }
 
 module _ {b : ℕ} {s : List ℕ} {i : ℕ} (p : Passed b s i) where
   pub passed-found : i < length s → getD s i 0 ≡ b → i ≡ bytes-before b s
-  passed-found h e = let f : bytes-before b (drop i s) ≡ 0 = before-more b s i h ∙ rw (eq-eqb (getD s i 0) b e) in omega (arith, p .known)
+  passed-found h e =
+      let f : bytes-before b (drop i s) ≡ 0 = rw (drop-cons s i 0) (before-found b (getD s i 0) (drop (suc i) s) (eq-eqb (getD s i 0) b e)) in
+      omega (arith, p .known)
 
   pub passed-more : i < length s → (getD s i 0 ≡ b → ⊥) → Passed b s (i + 1)
   passed-more h e =
-      let f : bytes-before b (drop i s) ≡ suc (bytes-before b (drop (i + 1) s)) = before-more b s i h ∙ rw (ne-eqb (getD s i 0) b e) in
+      let f : bytes-before b (drop i s) ≡ suc (bytes-before b (drop (i + 1) s)) =
+      rw (add-one, drop-cons s i 0) (before-more b (getD s i 0) (drop (suc i) s) (ne-eqb (getD s i 0) b e)) in
       record { within = omega arith; known = omega (arith, p .known) }
 
   pub passed-all : length s ≤ i → i ≡ bytes-before b s
-  unfolding bytes-before
+  unfolding until
   passed-all h =
       let e : i ≡ length s = omega (arith, p .within) in
       let f : bytes-before b (drop i s) ≡ 0 = rw (e, drop-length) in
       omega (arith, p .known)
 
 pub before-within : (b : ℕ) (s : List ℕ) → bytes-before b s ≤ length s
-unfolding bytes-before
+unfolding until
 before-within b [] = omega arith
 before-within b (x ∷ xs) =
-    either (eqb x b) (λ e. rw e (omega arith)) (λ e. rw e (omega (arith, before-within b xs)))
-
--- a position past the end counts as the end
-pub drop-min : (at : ℕ) (t : List ℕ) → drop (min at (length t)) t ≡ drop at t
-drop-min at t =
-    by-order (length t) at
-    (λ h. let e : min at (length t) ≡ length t = omega arith in rw (e, drop-length, drop-of-length-le t {i = at} (omega arith)))
-    (λ h. let e : min at (length t) ≡ at = omega arith in rw e)
+    either (eqb x b) (λ e. omega (arith, before-found b x xs e)) (λ e. omega (arith, before-more b x xs e, before-within b xs))
 
 pub drop-take : (n : ℕ) (s : List ℕ) → take (length s - n) (drop n s) ≡ drop n s
 drop-take n s = take-all (length s - n) (drop n s) (omega (arith, length-drop n s))
@@ -63,16 +66,18 @@ length-line t at = simp length-take (omega (arith, before-within 10 (drop at t))
 -- the first line of a text that goes on as s
 first-line : (s : List ℕ) → bytes-before 10 s < length s
     → lines s ≡ record { whole = take (bytes-before 10 s) s ∷ lines (drop (suc (bytes-before 10 s)) s) .whole; tail = lines (drop (suc (bytes-before 10 s)) s) .tail }
-unfolding lines bytes-before
+unfolding lines
 first-line [] h = absurd (omega arith)
 first-line (b ∷ bs) h =
-    either (eqb b 10) (λ e. rw e) (λ e. rw (e, first-line bs (omega (arith, rw e at h))))
+    either (eqb b 10) (λ e. rw (e, before-found 10 b bs e))
+    (λ e. let n = before-more 10 b bs e in rw (e, n, first-line bs (omega arith)))
 
 no-line : (s : List ℕ) → bytes-before 10 s ≡ length s → lines s ≡ record { whole = []; tail = s }
-unfolding lines bytes-before
+unfolding lines
 no-line [] h = refl
 no-line (b ∷ bs) h =
-    either (eqb b 10) (λ e. absurd (omega (arith, rw e at h))) (λ e. rw (e, no-line bs (omega (arith, rw e at h))))
+    either (eqb b 10) (λ e. absurd (omega (arith, before-found 10 b bs e)))
+    (λ e. rw (e, no-line bs (omega (arith, before-more 10 b bs e))))
 
 -- the lines from an index on: the line there ends in a line feed, or the text does
 module _ (t : List ℕ) (at : ℕ) where
@@ -80,7 +85,7 @@ module _ (t : List ℕ) (at : ℕ) where
   pub line-is : {from end : ℕ} → from ≡ min at (length t) → end ≡ bytes-before 10 (take (length t - from) (drop from t))
       → (from + end ≤ length t) × (take (from + end - from) (drop from t) ≡ line-at t at)
   line-is {from} {end} e q =
-      let d : drop from t ≡ drop at t = rw (e, drop-min at t) in
+      let d : drop from t ≡ drop at t = rw (e, drop-clamped at t) in
       let f : end ≡ bytes-before 10 (drop at t) = q ∙ rw (drop-take from t, d) in
       let n : from + end - from ≡ bytes-before 10 (drop at t) = omega arith in
       (omega (arith, before-within 10 (drop at t), length-drop at t), rw (n, d))

@@ -10,10 +10,11 @@ use lib.Seq.{drop-cons, drop-length}
 use native.Mathlib.Numerals.{add-one}
 use native.Mathlib.Omega.{arith}
 use borrow.Author.Tests.{eq-eqb, ne-eqb}
+use Rattle.laws.specs.Front.{until}
 use Rattle.laws.proofs.Cases.{either}
-use Rattle.text.specs.Lines.{bytes-before}
 use Rattle.text.specs.Decimal.{number, two-numbers, capped, capped-both}
-use Rattle.text.specs.Words.{after, of-part, inside, is-there, or-nothing, exactly, or-else, or-both}
+use Rattle.text.specs.Words.{after, of-part, inside, exactly, or-else, or-both}
+use Rattle.text.specs.inner.Parts.{is-there, or-nothing}
 use Rattle.text.specs.declared.Number.{Number}
 use Rattle.text.specs.declared.Number.the-variants.{Missing}
 use Rattle.text.specs.declared.Number.the-variants as number
@@ -121,7 +122,7 @@ module _ (limit : ℕ) (o : Option (List ℕ)) {l : List ℕ} (e : l ≡ or-noth
       go (some l) = refl
 
   pub numbers-in : {r : Numbers} → r ≡ capped-both limit (two-numbers l) → r ≡ capped-both limit (of-part numbers.Missing o two-numbers)
-  unfolding number bytes-before
+  unfolding number until
   numbers-in q = q ∙ rw e (go o)
     where
       go : (o : Option (List ℕ)) → capped-both limit (two-numbers (or-nothing o)) ≡ capped-both limit (of-part numbers.Missing o two-numbers)

@@ -2,3 +2,4 @@ pub mod Lines
 pub mod Decimal
 pub mod Words
 pub mod Reading
+pub mod inner

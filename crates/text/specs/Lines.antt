@@ -1,9 +1,10 @@
 -- A text is its whole lines and a tail. "Lines end in LF", byte 10.
-use Prim.Native.Nat.{ℕ, zero, suc}
+use Prim.Native.Nat.{ℕ}
 use mathlib.Core.Bool.{cond}
 use mathlib.Core.List.{List, [], _∷_}
 use lib.Dec.{eqb}
 use lib.ListN.{take, drop}
+use Rattle.laws.specs.Front.{until}
 
 -- a text's whole lines, without their line feeds, and what stands after the last of those
 pub record Lines : Type 0 where
@@ -22,9 +23,8 @@ lines (b ∷ bs) =
     (onto b (lines bs .whole) (lines bs .tail))
 
 -- how many bytes stand before the first that is b; all, where none is
-unfoldable pub bytes-before : ℕ → List ℕ → ℕ
-bytes-before b [] = zero
-bytes-before b (x ∷ xs) = cond (eqb x b) zero (suc (bytes-before b xs))
+abbrev pub bytes-before : ℕ → List ℕ → ℕ
+bytes-before b = until (λ x. eqb x b)
 
 -- the line that begins at an index, without its line feed; nothing past the end
 abbrev pub line-at : List ℕ → ℕ → List ℕ

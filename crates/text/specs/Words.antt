@@ -30,14 +30,6 @@ of-part missing (some l) f = f l
 abbrev pub inside : List ℕ → List ℕ → Option (List ℕ)
 inside word l = of-part none (before-close l) (after word)
 
-abbrev pub is-there : Option (List ℕ) → Bool
-is-there none = false
-is-there (some l) = true
-
-abbrev pub or-nothing : Option (List ℕ) → List ℕ
-or-nothing none = []
-or-nothing (some l) = l
-
 abbrev pub nothing-left : Option (List ℕ) → Bool
 nothing-left none = false
 nothing-left (some []) = true

@@ -3,7 +3,8 @@ ghost use mathlib.Core.Path.{_≡_};
 ghost use Prim.Native.Nat.{_+_, _-_, _*_, _≤_, min};
 ghost use Rattle.text.specs.Lines.{«bytes-before», «line-at»};
 ghost use Rattle.text.specs.Decimal.{decimal, number, «two-numbers», capped, «capped-both»};
-ghost use Rattle.text.specs.Words.{after, inside, «is-there», «or-nothing», exactly, opening, «whole-form», «whole-pair»};
+ghost use Rattle.text.specs.Words.{after, inside, exactly, opening, «whole-form», «whole-pair»};
+ghost use Rattle.text.specs.inner.Parts.{«is-there», «or-nothing»};
 
 // A number of a line, if it is there. One above the limit is given as one past the limit.
 pub enum Number {
@@ -20,7 +21,7 @@ pub enum Numbers {
 pub fn line(text: &[u8], at: usize) -> &[u8]
     ensures { λ r. ⌜ now r ≡ «line-at» (now (text .entry)) at ⌝ }
 {
-    let from = least(at, text.len());
+    let from = integers::least(at, text.len());
     let end = from + find(&text[from..], b'\n');
     &text[from..end]
 }
@@ -55,18 +56,6 @@ pub fn whole_numbers(line: &[u8], word: &[u8], limit: u32) -> Numbers
     ensures { λ r. ⌜ r ≡ «capped-both» limit («whole-pair» (now (word .entry)) (now (line .entry))) ⌝ }
 {
     numbers_of(inside(line, word), limit)
-}
-
-fn least(a: usize, b: usize) -> usize
-    ensures { λ r. ⌜ r ≡ min a b ⌝ }
-{
-    if a < b { a } else { b }
-}
-
-fn wide(x: u8) -> u64
-    ensures { λ r. ⌜ r ≡ x ⌝ }
-{
-    x as u64
 }
 
 // The index of the first byte of `s` that is `b`, or its length where none is.
@@ -132,7 +121,7 @@ fn push(n: u64, b: u8, limit: u32) -> u64
     ensures { λ r. ⌜ r ≡ min (n * 10 + (b - 48)) (limit + 1) ⌝ }
 {
     let top = limit as u64;
-    let more = n * 10 + wide(b - b'0');
+    let more = n * 10 + integers::u8_to_u64(b - b'0');
     if top < more { top + 1 } else { more }
 }
 

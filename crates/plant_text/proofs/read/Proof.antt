@@ -3,9 +3,9 @@ use borrow.Author.Needs.{needs}
 use native.Mathlib.Omega.{arith}
 use Rattle.plant.specs.Plant.{plant}
 use Rattle.index.specs.Index.{index}
-use Rattle.plant_text.specs.Devices.{Fits}
-use Rattle.plant_text.specs.Terms.{FitsIndex}
-use Rattle.plant_text.proofs.Whole.{room-fits, room-fits-index, answered, plant-filled, index-filled}
+use Rattle.plant_text.specs.inner.Devices.{Fits}
+use Rattle.plant_text.specs.inner.Terms.{FitsIndex}
+use Rattle.plant_text.proofs.Whole.{room-fits, room-fits-index, outcome-is, plant-filled, index-filled}
 use Rattle.plant_text.proofs.read.Statement.{statement}
 use Rattle.plant_text.proofs.read.Tie as tie
 
@@ -47,7 +47,7 @@ returns c =
     let a = o .before .before .before .before .before .before .before .before .before .before .before .before .before .before .before .args in
     let e = o .before .before .before .before .before .before .before .room-of .ensures in
     let k = o .read-all .kept .1 .1 in (
-      answered (a .last .now) (a .root .now) (a .level .now) (a .terms .now) (a .starts .now) (a .postings .now) e (o .read-all .ensures) (k .0) (k .1 .1 .1 .0) (k .1 .1 .1 .1 .1 .0),
+      outcome-is (a .last .now) (a .root .now) (a .level .now) (a .terms .now) (a .starts .now) (a .postings .now) e (o .read-all .ensures) (k .0) (k .1 .1 .1 .0) (k .1 .1 .1 .1 .1 .0),
       (
         plant-filled (a .last .now) (a .root .now) (a .level .now) (a .terms .now) (a .starts .now) (a .postings .now) e (o .read-all .ensures)
             (c .before .before .before .before .before .before .before .before .before .before .before .before .before .before .before .before .before .before .before .before .before .before .before .before .before .before .devices-in .ensures) (k .0) (k .1 .0) (k .1 .1 .0) (c .before .before .before .before .before .before .before .before .before .before .before .before .before .before .before .before .before .before .before .before .before .before .clear16 .ensures) (c .before .before .before .before .before .before .before .before .before .before .before .before .before .before .before .before .before .before .clear162 .ensures) (c .before .before .before .before .before .before .before .before .before .before .before .before .before .before .clear8 .ensures),

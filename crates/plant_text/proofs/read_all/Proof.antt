@@ -1,6 +1,6 @@
 -- `plant_text::read_all` meets its contract.
 use borrow.Author.Needs.{needs}
-use Rattle.plant_text.proofs.Whole.{all-20, all-start, plant-stands, all-devices, terms-ready, all-terms, all-after, all-made}
+use Rattle.plant_text.proofs.Whole.{all-20, all-start, plant-at-line, all-devices, terms-ready, all-terms, all-after, all-made}
 use Rattle.plant_text.proofs.read_all.Statement.{statement}
 use Rattle.plant_text.proofs.read_all.Tie as tie
 
@@ -12,7 +12,7 @@ returns-2 c = all-start _ (c .before .before .before .if1 .left) (c .before .bef
 
 devices-requires : tie.Need-devices-requires
 devices-requires c κs =
-    (plant-stands (c .before .before .before .before .before .before .before .before .before .before .before .before .before .before .args .room) (c .before .before .before .before .before .before .if1 .left) (c .before .before .before .before .before .line-at .ensures) (c .before .before .before .before .start-refusal .ensures) (c .before .before .before .if2 .left), (search needs, search needs))
+    (plant-at-line (c .before .before .before .before .before .before .before .before .before .before .before .before .before .before .args .room) (c .before .before .before .before .before .before .if1 .left) (c .before .before .before .before .before .line-at .ensures) (c .before .before .before .before .start-refusal .ensures) (c .before .before .before .if2 .left), (search needs, search needs))
 
 read-terms-requires : tie.Need-read-terms-requires
 read-terms-requires c κs =

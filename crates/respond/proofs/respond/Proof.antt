@@ -6,7 +6,7 @@ use mathlib.Core.Path.{sym, _∙_}
 use native.Mathlib.Omega.{arith}
 use denote.Ref.{now}
 use lib.ListN.{length-take}
-use Rattle.plant_text.specs.PlantText.{read}
+use Rattle.plant_text.specs.PlantText.{read-plant}
 use Rattle.respond.specs.Lines.{word-plant}
 use Rattle.respond.specs.Respond.{program-room}
 use Rattle.respond.proofs.Tables.{Tables, tables, is-refused}
@@ -34,7 +34,7 @@ returns c =
     let a = c .before .before .before .before .before .before .before .before .before .before .before .before .before .before .before .before .before .before .before .before .before .args in
     responds (c .put-numbered-twice .ensures .1) (c .put-numbered-twice .ensures .0)
     (plant-refused (now (a .plant)) (now (a .query)) (m .0 .0) (m .0 .1 .0)
-    (is-refused (read program-room (now (a .plant))) (m .0 .0) (m .0 .1 .0) (sym (m .1) ∙ r .ensures .0)))
+    (is-refused (read-plant program-room (now (a .plant))) (m .0 .0) (m .0 .1 .0) (sym (m .1) ∙ r .ensures .0)))
 
 returns-2 : tie.Need-returns-2
 returns-2 c =

@@ -8,8 +8,8 @@ use borrow.Fn.PlainCycle.{Measures, is, falls, and}
 use native.Mathlib.Omega.{arith}
 use lib.ListN.{length, length-set}
 use Rattle.plant.specs.Plant.{plant}
-use Rattle.plant_text.specs.Devices.{Ends, from-device}
-use Rattle.plant_text.proofs.Nesting.{Sizes, list-start, list-stop, list-refused, list-more, list-onward, device-moves, device-stands, device-barred, device-refused, device-open, device-ended, close-stands}
+use Rattle.plant_text.specs.inner.Devices.{DevicesAt, from-device}
+use Rattle.plant_text.proofs.Nesting.{PlantSizes, list-start, list-stop, list-refused, list-more, list-onward, device-moves, device-at-line, device-barred, device-refused, device-open, device-ended, close-at-line}
 use Rattle.plant_text.proofs.devices.device.Reads as device
 use Rattle.plant_text.proofs.devices.device.Kinds as device-kinds
 use Rattle.plant_text.proofs.devices.+device+devices.Lts-device as device-lts
@@ -91,22 +91,22 @@ device-returns-2 t c =
 
 device-cast-end : (t : ℕ) → device-lts.Need-cast-end (device-calls t) (device-at t) device.Post
 device-cast-end t c =
-    let s = close-stands (listed t (c .before) .devices .ensures) (c .before .before .before .inside2 .given .1) (c .before .before .before .before .before .before .before .before .before .before .before .before .before .before .before .before .before .before .before .before .before .before .before .before .before .before .before .before .before .before .before .args .depth + 2) (c .before .end-refusal .ensures) (c .if2 .left) in
+    let s = close-at-line (listed t (c .before) .devices .ensures) (c .before .before .before .inside2 .given .1) (c .before .before .before .before .before .before .before .before .before .before .before .before .before .before .before .before .before .before .before .before .before .before .before .before .before .before .before .before .before .before .before .args .depth + 2) (c .before .end-refusal .ensures) (c .if2 .left) in
     omega (arith, s .0 .counted, s .0 .within, s .0 .fits)
 
 device-mul-last : (t : ℕ) → device-lts.Need-mul-last (device-calls t) (device-at t) device.Post
 device-mul-last t c =
-    let s = close-stands (listed t (c .before) .devices .ensures) (c .before .before .before .inside2 .given .1) (c .before .before .before .before .before .before .before .before .before .before .before .before .before .before .before .before .before .before .before .before .before .before .before .before .before .before .before .before .before .before .before .args .depth + 2) (c .before .end-refusal .ensures) (c .if2 .left) in
+    let s = close-at-line (listed t (c .before) .devices .ensures) (c .before .before .before .inside2 .given .1) (c .before .before .before .before .before .before .before .before .before .before .before .before .before .before .before .before .before .before .before .before .before .before .before .before .before .before .before .before .before .before .before .args .depth + 2) (c .before .end-refusal .ensures) (c .if2 .left) in
     omega (arith, s .0 .counted, s .0 .within, s .0 .fits, s .1)
 
 device-slice-write-last : (t : ℕ) → device-lts.Need-slice-write-last (device-calls t) (device-at t) device.Post
 device-slice-write-last t c =
-    let s = close-stands (listed t (c .before) .devices .ensures) (c .before .before .before .inside2 .given .1) (c .before .before .before .before .before .before .before .before .before .before .before .before .before .before .before .before .before .before .before .before .before .before .before .before .before .before .before .before .before .before .before .args .depth + 2) (c .before .end-refusal .ensures) (c .if2 .left) in
+    let s = close-at-line (listed t (c .before) .devices .ensures) (c .before .before .before .inside2 .given .1) (c .before .before .before .before .before .before .before .before .before .before .before .before .before .before .before .before .before .before .before .before .before .before .before .before .before .before .before .before .before .before .before .args .depth + 2) (c .before .end-refusal .ensures) (c .if2 .left) in
     omega (arith, s .1, s .2, s .3 .last)
 
 device-add-t41 : (t : ℕ) → device-lts.Need-add-t41 (device-calls t) (device-at t) device.Post
 device-add-t41 t c =
-    let s = close-stands (listed t (c .before) .devices .ensures) (c .before .before .before .inside2 .given .1) (c .before .before .before .before .before .before .before .before .before .before .before .before .before .before .before .before .before .before .before .before .before .before .before .before .before .before .before .before .before .before .before .args .depth + 2) (c .before .end-refusal .ensures) (c .if2 .left) in
+    let s = close-at-line (listed t (c .before) .devices .ensures) (c .before .before .before .inside2 .given .1) (c .before .before .before .before .before .before .before .before .before .before .before .before .before .before .before .before .before .before .before .before .before .before .before .before .before .before .before .before .before .before .before .args .depth + 2) (c .before .end-refusal .ensures) (c .if2 .left) in
     omega (arith, s .0 .lined, s .0 .within, s .0 .fits)
 
 device-returns-3 : (t : ℕ) → device-lts.Need-returns-3 (device-calls t) (device-at t) device.Post
@@ -126,8 +126,8 @@ device-returns-4 t c =
 -- devices: what has been read of the list, in tables of the same sizes
 abbrev Inv : devices-lts.InvT-loop
 Inv text room at line count depth top last₀ root₀ level₀ a₀ k₀ c₀ last root level a k c =
-    Ends room text depth top (from-device room text (plant last₀ root₀ level₀) at line count) at count (plant last root level) a k c
-    × Sizes (plant last₀ root₀ level₀) (plant last root level)
+    DevicesAt room text depth top (from-device room text (plant last₀ root₀ level₀) at line count) at count (plant last root level) a k c
+    × PlantSizes (plant last₀ root₀ level₀) (plant last root level)
 
 abbrev μ : devices-lts.MeasureT-loop
 μ text room at line count depth top last₀ root₀ level₀ a₀ k₀ c₀ last root level a k c = length text - a
@@ -144,7 +144,7 @@ devices-device-requires t c κs =
     let x = c .before .before .before .before .before .before .before .line-at .ensures in
     let q = c .before .before .before .before .before .before .level-of .ensures in
     let v = c .before .before .before .before .n .given .1 in
-    (omega (arith, device-moves e x q v, x .within, e .onward, c .before .before .before .before .before .before .before .before .before .before .before .before .before .pre .0), (device-stands e x q v, (e .fits, e .holds)))
+    (omega (arith, device-moves e x q v, x .within, e .onward, c .before .before .before .before .before .before .before .before .before .before .before .before .before .pre .0), (device-at-line e x q v, (e .fits, e .holds)))
 
 devices-returns-2 : (t : ℕ) → devices-lts.Need-returns-2 (devices-calls t) (devices-at t) devices.Post Inv μ
 devices-returns-2 t c =

@@ -1,7 +1,7 @@
 -- `plant_text::lines::level_of` meets its contract.
 use Rattle.plant_text.proofs.lines.level_of.Statement.{statement}
 use Rattle.plant_text.proofs.lines.level_of.Tie as tie
-use Rattle.plant_text.specs.Rest.{level-of}
+use Rattle.plant_text.specs.inner.Rest.{level-of}
 use borrow.Author.Needs.{needs}
 use mathlib.Core.Path.{sym, ap}
 

@@ -1,7 +1,7 @@
 -- `plant_text::lines::posting_of` meets its contract.
 use Rattle.plant_text.proofs.lines.posting_of.Statement.{statement}
 use Rattle.plant_text.proofs.lines.posting_of.Tie as tie
-use Rattle.plant_text.specs.Rest.{posting-of}
+use Rattle.plant_text.specs.inner.Rest.{posting-of}
 use borrow.Author.Needs.{needs}
 use mathlib.Core.Path.{sym, ap}
 

@@ -1,7 +1,7 @@
 -- `plant_text::lines::term_of` meets its contract.
 use Rattle.plant_text.proofs.lines.term_of.Statement.{statement}
 use Rattle.plant_text.proofs.lines.term_of.Tie as tie
-use Rattle.plant_text.specs.Rest.{term-of}
+use Rattle.plant_text.specs.inner.Rest.{term-of}
 use borrow.Author.Needs.{needs}
 use mathlib.Core.Path.{sym, ap}
 

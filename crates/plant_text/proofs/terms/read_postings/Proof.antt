@@ -5,8 +5,8 @@ use borrow.Author.Needs.{needs}
 use native.Mathlib.Omega.{arith}
 use lib.ListN.{length}
 use Rattle.plant_text.specs.PlantText.{postings}
-use Rattle.plant_text.specs.Terms.{PostsAt, from-posting}
-use Rattle.plant_text.proofs.Posts.{posts-start, posts-refused, ending-stands, posts-ended, posting-stands, posting-moves, posting-refused, posting-added}
+use Rattle.plant_text.specs.inner.Terms.{PostsAt, from-posting}
+use Rattle.plant_text.proofs.Posts.{posts-start, posts-refused, ending-at-line, posts-ended, posting-at-line, posting-moves, posting-refused, posting-added}
 use Rattle.plant_text.proofs.terms.read_postings.Statement.{statement}
 use Rattle.plant_text.proofs.terms.read_postings.Tie as tie
 
@@ -26,7 +26,7 @@ returns c =
 
 add-t21 : tie.Need-add-t21 Inv-loop μ-loop
 add-t21 c =
-    let s = ending-stands (c .before .before .before .before .before .before .loop .inv .0) (c .before .before .before .before .before .line-at .ensures) (c .before .before .before .before .posting-of .ensures) (c .before .before .enum-told .given .1) (c .before .end-refusal .ensures) (c .if1 .left) in omega (arith, s .lined, s .within, s .fits)
+    let s = ending-at-line (c .before .before .before .before .before .before .loop .inv .0) (c .before .before .before .before .before .line-at .ensures) (c .before .before .before .before .posting-of .ensures) (c .before .before .enum-told .given .1) (c .before .end-refusal .ensures) (c .if1 .left) in omega (arith, s .lined, s .within, s .fits)
 
 returns-2 : tie.Need-returns-2 Inv-loop μ-loop
 returns-2 c = record { result = search (posts-ended, needs) }
@@ -37,11 +37,11 @@ returns-3 c =
 
 add-k : tie.Need-add-k Inv-loop μ-loop
 add-k c =
-    let s = posting-stands (c .before .before .before .before .before .before .before .before .before .before .loop .inv .0) (c .before .before .before .before .before .before .before .before .before .line-at .ensures) (c .before .before .before .before .before .before .before .before .posting-of .ensures) (c .before .before .before .before .before .before .d .given .1) in omega (arith, s .lined, s .within, s .fits)
+    let s = posting-at-line (c .before .before .before .before .before .before .before .before .before .before .loop .inv .0) (c .before .before .before .before .before .before .before .before .before .line-at .ensures) (c .before .before .before .before .before .before .before .before .posting-of .ensures) (c .before .before .before .before .before .before .d .given .1) in omega (arith, s .lined, s .within, s .fits)
 
 add-n : tie.Need-add-n Inv-loop μ-loop
 add-n c =
-    let s = posting-stands (c .before .before .before .before .before .before .before .before .before .before .loop .inv .0) (c .before .before .before .before .before .before .before .before .before .line-at .ensures) (c .before .before .before .before .before .before .before .before .posting-of .ensures) (c .before .before .before .before .before .before .d .given .1) in omega (arith, s .counted, s .within, s .fits)
+    let s = posting-at-line (c .before .before .before .before .before .before .before .before .before .before .loop .inv .0) (c .before .before .before .before .before .before .before .before .before .line-at .ensures) (c .before .before .before .before .before .before .before .before .posting-of .ensures) (c .before .before .before .before .before .before .d .given .1) in omega (arith, s .counted, s .within, s .fits)
 
 loop-less : tie.Need-loop-less Inv-loop μ-loop
 loop-less c =

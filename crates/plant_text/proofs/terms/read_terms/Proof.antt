@@ -5,15 +5,15 @@ use borrow.Author.Needs.{needs}
 use native.Mathlib.Omega.{arith}
 use lib.ListN.{length}
 use Rattle.index.specs.Index.{index}
-use Rattle.plant_text.specs.Terms.{TermsAt, at-term}
-use Rattle.plant_text.proofs.Index.{Sizes, terms-start, terms-refused, closing-stands, terms-closed, term-stands, term-refused, postings-refused, ended-within, terms-more}
+use Rattle.plant_text.specs.inner.Terms.{TermsAt, at-term}
+use Rattle.plant_text.proofs.Index.{IndexSizes, terms-start, terms-refused, closing-at-line, terms-closed, term-at-line, term-refused, postings-refused, ended-within, terms-more}
 use Rattle.plant_text.proofs.terms.read_terms.Statement.{statement}
 use Rattle.plant_text.proofs.terms.read_terms.Tie as tie
 
 abbrev Inv-loop : tie.InvT-loop
 Inv-loop text room next line count last terms₀ starts₀ postings₀ f₀ a₀ k₀ n₀ p₀ terms starts postings f a k n p =
     TermsAt room text last count (at-term room text (index terms₀ starts₀ postings₀) f₀ next line 0 0) (index terms starts postings) f a k n p
-    × Sizes (index terms₀ starts₀ postings₀) (index terms starts postings)
+    × IndexSizes (index terms₀ starts₀ postings₀) (index terms starts postings)
 
 abbrev μ-loop : tie.MeasureT-loop
 μ-loop text room next line count last terms₀ starts₀ postings₀ f₀ a₀ k₀ n₀ p₀ terms starts postings f a k n p = length text - a
@@ -27,7 +27,7 @@ returns c =
 
 add-t27 : tie.Need-add-t27 Inv-loop μ-loop
 add-t27 c =
-    let s = closing-stands (c .before .before .before .before .before .loop .inv .0) (c .before .before .before .before .term-of .ensures) (c .before .before .enum-told .given .1) (c .before .end-refusal .ensures) (c .if1 .left) in omega (arith, s .lined, s .within, s .fits)
+    let s = closing-at-line (c .before .before .before .before .before .loop .inv .0) (c .before .before .before .before .term-of .ensures) (c .before .before .enum-told .given .1) (c .before .end-refusal .ensures) (c .if1 .left) in omega (arith, s .lined, s .within, s .fits)
 
 returns-2 : tie.Need-returns-2 Inv-loop μ-loop
 returns-2 c =
@@ -36,7 +36,7 @@ returns-2 c =
 open-term-requires : tie.Need-open-term-requires Inv-loop μ-loop
 open-term-requires c κs =
     let e = c .before .before .before .before .before .before .loop .inv .0 in
-    let s = term-stands (c .before .before .before .before .before .before .loop .inv .0) (c .before .before .before .before .before .term-of .ensures) (c .before .before .before .v .given .1) .0 in
+    let s = term-at-line (c .before .before .before .before .before .before .loop .inv .0) (c .before .before .before .before .before .term-of .ensures) (c .before .before .before .v .given .1) .0 in
     (e .terms, e .fits .terms, e .fits .starts, omega (arith, s .counted, s .within, s .fits))
 
 returns-3 : tie.Need-returns-3 Inv-loop μ-loop
@@ -45,12 +45,12 @@ returns-3 c =
 
 add-read-postings : tie.Need-add-read-postings Inv-loop μ-loop
 add-read-postings c =
-    let s = term-stands (c .before .before .before .before .before .before .before .before .before .before .before .before .loop .inv .0) (c .before .before .before .before .before .before .before .before .before .before .before .term-of .ensures) (c .before .before .before .before .before .before .before .before .before .v .given .1) .0 in omega (arith, s .lined, s .within, s .fits)
+    let s = term-at-line (c .before .before .before .before .before .before .before .before .before .before .before .before .loop .inv .0) (c .before .before .before .before .before .before .before .before .before .before .before .term-of .ensures) (c .before .before .before .before .before .before .before .before .before .v .given .1) .0 in omega (arith, s .lined, s .within, s .fits)
 
 read-postings-requires : tie.Need-read-postings-requires Inv-loop μ-loop
 read-postings-requires c κs =
     let e = c .before .before .before .before .before .before .before .before .before .before .before .before .before .loop .inv .0 in
-    let s = term-stands (c .before .before .before .before .before .before .before .before .before .before .before .before .before .loop .inv .0) (c .before .before .before .before .before .before .before .before .before .before .before .before .term-of .ensures) (c .before .before .before .before .before .before .before .before .before .before .v .given .1) in
+    let s = term-at-line (c .before .before .before .before .before .before .before .before .before .before .before .before .before .loop .inv .0) (c .before .before .before .before .before .before .before .before .before .before .before .before .term-of .ensures) (c .before .before .before .before .before .before .before .before .before .before .v .given .1) in
     (s .0, (s .1, e .lasts, e .postings, e .fits .postings))
 
 returns-4 : tie.Need-returns-4 Inv-loop μ-loop

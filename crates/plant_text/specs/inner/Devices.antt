@@ -1,4 +1,5 @@
--- What the readers of devices promise: what the rest of a text comes to, for every stack of open devices.
+-- What the readers of devices promise: what the rest of a text comes to, for every stack of open devices. The contracts of private functions
+-- alone cite this.
 use Prim.Native.Nat.{ℕ, _+_, _<_, _≤_}
 use mathlib.Core.Path.{_≡_}
 use mathlib.Core.Bool.{false, cond}
@@ -10,8 +11,8 @@ use Rattle.index.specs.Index.{index}
 use Rattle.text.specs.Reading.{Read, no}
 use Rattle.text.specs.declared.Number.the-variants.{Missing}
 use Rattle.plant_text.specs.Form.{is-unfinished}
-use Rattle.plant_text.specs.PlantText.{State, devices, line-refusal, next, outermost}
-use Rattle.plant_text.specs.Rest.{from, from-form, Stands, level-of}
+use Rattle.plant_text.specs.PlantText.{State, devices, most-open, line-refusal, next, outermost}
+use Rattle.plant_text.specs.inner.Rest.{from, from-form, ReadingAt, level-of}
 use Rattle.plant_text.specs.declared.Room.{Room}
 use Rattle.plant_text.specs.declared.lines.Form.{Form}
 use Rattle.plant_text.specs.declared.lines.Form.the-variants.{Device}
@@ -46,7 +47,7 @@ pub record Opens (r : Room) (T : plants.Plant) (count depth out n : ℕ) (T′ :
       next (devices-made T count stack) (Device n) ≡ devices-made T′ (count + 1) ((count + 1) ∷ stack)
   pub fits : Fits r T′
   pub holds : x ≡ 0 → count + 1 ≤ r .devices
-  pub shallow : x ≡ 0 → depth < 32
+  pub shallow : x ≡ 0 → depth < most-open
 
 -- what reading comes to from an index on, and where line k is of a form and the next begins at an index
 abbrev pub from-device : Room → List ℕ → plants.Plant → ℕ → ℕ → ℕ → List ℕ → Read State
@@ -60,9 +61,9 @@ pub record Same (depth top : ℕ) (a b : List ℕ → Read State) : Type 0 where
   pub same : (stack : List ℕ) → Stack stack depth top → a stack ≡ b stack
 
 -- the reading A of what begins at an index, with a count, goes on at another
-pub record Ends (r : Room) (t : List ℕ) (depth top : ℕ) (A : List ℕ → Read State) (since count : ℕ) (T : plants.Plant) (at k c : ℕ) : Type 0 where
+pub record DevicesAt (r : Room) (t : List ℕ) (depth top : ℕ) (A : List ℕ → Read State) (since count : ℕ) (T : plants.Plant) (at k c : ℕ) : Type 0 where
   pub reads : Same depth top A (from-device r t T at k c)
-  pub stands : Stands t at k c
+  pub at-line : ReadingAt t at k c
   pub fits : Fits r T
   pub holds : c ≤ r .devices
   pub onward : since ≤ at
@@ -72,7 +73,7 @@ pub record Ends (r : Room) (t : List ℕ) (depth top : ℕ) (A : List ℕ → Re
 pub record Stops (r : Room) (t : List ℕ) (depth top : ℕ) (A : List ℕ → Read State) (since count : ℕ) (T : plants.Plant) (f : Form) (at k c : ℕ) : Type 0 where
   pub reads : Same depth top A (at-form r t T f at k c)
   pub no-device : level-of f ≡ Missing
-  pub stands : is-unfinished f ≡ false → Stands t at (k + 1) c
+  pub at-line : is-unfinished f ≡ false → ReadingAt t at (k + 1) c
   pub fits : Fits r T
   pub holds : c ≤ r .devices
   pub onward : is-unfinished f ≡ false → since ≤ at
@@ -82,7 +83,7 @@ pub record Stops (r : Room) (t : List ℕ) (depth top : ℕ) (A : List ℕ → R
 -- a device form of level n at line k is read, whose next line begins at an index
 abbrev pub device-result : Room → List ℕ → plants.Plant → ℕ → ℕ → ℕ → ℕ → ℕ → ℕ → plants.Plant → Ending → Type 0
 device-result r t T n at k count depth top T′ (ending.Refused x l) = Same depth top (at-form r t T (Device n) at k count) (λ stack. no x l)
-device-result r t T n at k count depth top T′ (ending.Ended at′ l c) = Ends r t depth top (at-form r t T (Device n) at k count) at count T′ at′ l c
+device-result r t T n at k count depth top T′ (ending.Ended at′ l c) = DevicesAt r t depth top (at-form r t T (Device n) at k count) at count T′ at′ l c
 
 pub record DeviceRead (r : Room) (t : List ℕ) (T : plants.Plant) (n at k count depth top : ℕ) (T′ : plants.Plant) (e : Ending) : Type 0 where
   pub result : device-result r t T n at k count depth top T′ e

@@ -1,20 +1,19 @@
--- What the readers of terms and postings promise.
+-- What the readers of terms and postings promise. The contracts of private functions alone cite this.
 use Prim.Native.Nat.{ℕ, _+_, _<_, _≤_}
 use mathlib.Core.Path.{_≡_}
 use mathlib.Core.Bool.{Bool, false}
 use mathlib.Core.List.{List, []}
 use lib.ListN.{length, take, drop}
 use lib.Seq.{slice}
-use Rattle.laws.specs.Search.{any}
 use Rattle.laws.specs.Tables.{entry}
 use Rattle.plant.specs.Plant as plants
-use Rattle.index.specs.Postings.{device, misplaced, redundant}
 use Rattle.index.specs.Index as indexes
 use Rattle.index.specs.Index.{index}
+use Rattle.index.specs.inner.Lists.{SoundList}
 use Rattle.text.specs.Reading.{Read, no}
 use Rattle.plant_text.specs.Form.{is-unfinished}
 use Rattle.plant_text.specs.PlantText.{Stage, State, terms, postings, closed, line-refusal, next}
-use Rattle.plant_text.specs.Rest.{from, from-form, Stands}
+use Rattle.plant_text.specs.inner.Rest.{from, from-form, ReadingAt}
 use Rattle.plant_text.specs.declared.Room.{Room}
 use Rattle.plant_text.specs.declared.lines.Form.{Form}
 use Rattle.plant_text.specs.declared.lines.Form.the-variants.{Term, Posting}
@@ -22,11 +21,6 @@ use Rattle.plant_text.specs.declared.lines.Ending.{Ending}
 use Rattle.plant_text.specs.declared.lines.Ending.the-variants as ending
 use Rattle.plant_text.specs.declared.terms.Closing.{Closing}
 use Rattle.plant_text.specs.declared.terms.Closing.the-variants as closing
-
--- a list of postings that is not refused by 8 and 9
-pub record Sound (last l : List ℕ) : Type 0 where
-  pub placed : any (length l) (misplaced (length last) device l) ≡ false
-  pub single : any (length l) (redundant last l) ≡ false
 
 -- what is made in a term, after what m has, with n postings in their table
 abbrev pub posts-made : State → List ℕ → ℕ → Stage → State
@@ -44,7 +38,7 @@ pub record Adds (r : Room) (last posts : List ℕ) (count begin n d : ℕ) (s : 
   pub adds : x ≡ 0 → (m : State) → next (posts-made m posts n postings) (Posting d s) ≡ posts-made m posts′ (n + 1) postings
   pub fits : r .postings ≤ length posts′
   pub holds : x ≡ 0 → n + 1 ≤ r .postings
-  pub sound : x ≡ 0 → Sound (take count last) (slice begin (n + 1) posts′)
+  pub sound : x ≡ 0 → SoundList (take count last) (slice begin (n + 1) posts′)
 
 -- what reading comes to from an index on, with n postings
 abbrev pub from-posting : Room → List ℕ → Stage → List ℕ → ℕ → ℕ → ℕ → State → Read State
@@ -57,14 +51,14 @@ pub record SamePosts (last : List ℕ) (count begin : ℕ) (a b : State → Read
 -- the reading A of what begins at an index goes on at another, at a stage
 pub record PostsAt (r : Room) (t last : List ℕ) (count begin : ℕ) (A : State → Read State) (since : ℕ) (s : Stage) (posts : List ℕ) (at k n : ℕ) : Type 0 where
   pub reads : SamePosts last count begin A (from-posting r t s posts at k n)
-  pub stands : Stands t at k n
+  pub at-line : ReadingAt t at k n
   pub counted : count < at
   pub lasts : count ≤ length last
   pub more : begin ≤ n
   pub fits : r .postings ≤ length posts
   pub holds : n ≤ r .postings
   pub onward : since ≤ at
-  pub sound : Sound (take count last) (slice begin n posts)
+  pub sound : SoundList (take count last) (slice begin n posts)
 
 -- a term's postings are read from an index on
 abbrev pub posts-result : Room → List ℕ → List ℕ → List ℕ → ℕ → ℕ → ℕ → ℕ → List ℕ → Ending → Type 0
@@ -111,7 +105,7 @@ at-term r t X f at k n p P = from-form r (terms-made P X n p terms) f k (drop at
 -- the reading A goes on up to line k, which is of a form, with n terms and p postings
 pub record TermsAt (r : Room) (t last : List ℕ) (count : ℕ) (A : plants.Plant → Read State) (X : indexes.Index) (f : Form) (at k n p : ℕ) : Type 0 where
   pub reads : SameTerms last count A (at-term r t X f at k n p)
-  pub stands : is-unfinished f ≡ false → Stands t at (k + 1) p
+  pub at-line : is-unfinished f ≡ false → ReadingAt t at (k + 1) p
   pub counted : is-unfinished f ≡ false → count < at
   pub within : at ≤ length t
   pub lasts : count ≤ length last
@@ -137,7 +131,7 @@ pub record TermsRead (r : Room) (t last : List ℕ) (count : ℕ) (X : indexes.I
 
 -- where terms may be read from
 pub record TermsStart (r : Room) (t last : List ℕ) (count : ℕ) (X : indexes.Index) (f : Form) (at k : ℕ) : Type 0 where
-  pub stands : is-unfinished f ≡ false → Stands t at (k + 1) count
+  pub at-line : is-unfinished f ≡ false → ReadingAt t at (k + 1) count
   pub within : at ≤ length t
   pub lasts : count ≤ length last
   pub fits : FitsIndex r X

@@ -1,16 +1,18 @@
--- What the reader's functions promise one another: what is left of a reading, and where it stands.
+-- What the reader's functions promise one another: what is left of a reading, and where it is. The contracts of private functions alone cite
+-- this.
 use Prim.Native.Nat.{ℕ, _+_, _<_, _≤_, min}
 use mathlib.Core.Path.{_≡_}
 use mathlib.Core.List.{List}
 use lib.Dec.{eqb}
 use lib.ListN.{length}
+use Rattle.laws.specs.Limits.{highest-term}
 use Rattle.laws.specs.Rows.{pick}
 use Rattle.text.specs.Lines.{line-at}
 use Rattle.text.specs.Reading.{Read, unless, and-then, reading}
 use Rattle.text.specs.declared.Number.{Number}
 use Rattle.text.specs.declared.Number.the-variants.{Value, Missing}
 use Rattle.plant_text.specs.Form.{form}
-use Rattle.plant_text.specs.PlantText.{State, line-refusal, next, line, end}
+use Rattle.plant_text.specs.PlantText.{longest-text, State, line-refusal, next, line, end}
 use Rattle.plant_text.specs.declared.Room.{Room}
 use Rattle.plant_text.specs.declared.lines.Form.{Form}
 use Rattle.plant_text.specs.declared.lines.Form.the-variants.{Plant, Device, Term, Posting, Close, Other, Unfinished}
@@ -25,12 +27,16 @@ from r m k s = reading (line r) (end r) m k s
 abbrev pub from-form : Room → State → Form → ℕ → List ℕ → Read State
 from-form r m f k s = and-then (unless (line-refusal r m f) (next m f)) k (λ m′. from r m′ (k + 1) s)
 
--- a form whose numbers are known up to 65,535: one above stands for all above
+-- numbers are known up to this, above which no term, device or level is taken
+abbrev pub highest-known : ℕ
+highest-known = highest-term
+
+-- a form with its numbers as they are known: one above the highest stands for all above
 abbrev pub capped-form : Form → Form
 capped-form Plant = Plant
-capped-form (Device n) = Device (min n 65536)
-capped-form (Term n) = Term (min n 65536)
-capped-form (Posting d s) = Posting (min d 65536) s
+capped-form (Device n) = Device (min n (highest-known + 1))
+capped-form (Term n) = Term (min n (highest-known + 1))
+capped-form (Posting d s) = Posting (min d (highest-known + 1)) s
 capped-form Close = Close
 capped-form Other = Other
 capped-form Unfinished = Unfinished
@@ -42,9 +48,9 @@ pub record Lexed (t : List ℕ) (at : ℕ) (f : Form) (next : ℕ) : Type 0 wher
   pub whole : at < next → (f ≡ capped-form (form (line-at t at))) × (next ≡ at + length (line-at t at) + 1)
   pub unfinished : next ≡ at → (f ≡ Unfinished) × (length t ≤ at + length (line-at t at))
 
--- reading stands at an index of a text, at a line, with a count of devices or of postings
-pub record Stands (t : List ℕ) (at line count : ℕ) : Type 0 where
-  pub fits : length t ≤ 65536
+-- reading is at an index of a text, at a line, with a count of devices or of postings
+pub record ReadingAt (t : List ℕ) (at line count : ℕ) : Type 0 where
+  pub fits : length t ≤ longest-text
   pub within : at ≤ length t
   pub lined : line ≤ at + 1
   pub counted : count < at

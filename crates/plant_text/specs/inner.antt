@@ -1,0 +1,4 @@
+pub mod Rest
+pub mod Devices
+pub mod Terms
+pub mod Whole
