@@ -23,8 +23,8 @@ abbrev pub longest-text : ℕ
 longest-text = 65_536
 
 -- "its level code 0 to 255, held as one byte"
-abbrev pub highest-level : ℕ
-highest-level = 255
+abbrev pub highest-code : ℕ
+highest-code = 255
 
 -- "at most 32 are open together"
 abbrev pub most-open : ℕ
@@ -87,7 +87,7 @@ unopened m f = is-close f && eqb (brackets (m .stage) (m .opened)) 0
 
 -- 22: "level over 255, mark outside 1..65,535, posting device outside 1..N"
 abbrev pub out-of-range : State → Form → Bool
-out-of-range m = numbered (λ n. ltb highest-level n) (λ t. eqb t 0 || ltb highest-term t) (λ d. eqb d 0 || ltb (size (m .plant)) d)
+out-of-range m = numbered (λ n. ltb highest-code n) (λ t. eqb t 0 || ltb highest-term t) (λ d. eqb d 0 || ltb (size (m .plant)) d)
 
 -- 23: "a 33rd open device"
 abbrev pub too-deep : State → Form → Bool

@@ -5,7 +5,7 @@ ghost use Prim.Native.Nat.{_+_, _≤_};
 ghost use lib.Dec.{leb, ltb, eqb};
 ghost use Rattle.laws.specs.Rows.{pick};
 ghost use Rattle.plant.specs.Plant.{plant};
-ghost use Rattle.plant_text.specs.PlantText.{«highest-level», «most-open»};
+ghost use Rattle.plant_text.specs.PlantText.{«highest-code», «most-open»};
 ghost use Rattle.plant_text.specs.inner.Rest.{ReadingAt};
 ghost use Rattle.plant_text.specs.inner.Devices.{Fits, Opens, DeviceRead, ListRead};
 use crate::Room;
@@ -32,7 +32,7 @@ fn outer(depth: u32, top: u16, d: u16) -> u16
 
 // Why a device of level n does not open below `depth` others, after `count` of the `most` that there is room for; or 0.
 fn device_refusal(n: u64, depth: u32, most: usize, count: usize) -> u32
-    ensures { λ r. ⌜ r ≡ pick (ltb «highest-level» n) 22 (pick (leb «most-open» depth) 23 (pick (leb most count) 27 0)) ⌝ }
+    ensures { λ r. ⌜ r ≡ pick (ltb «highest-code» n) 22 (pick (leb «most-open» depth) 23 (pick (leb most count) 27 0)) ⌝ }
 {
     if 255 < n {
         return 22;

@@ -10,7 +10,7 @@ use lib.ListN.{length, length-append}
 use Rattle.laws.proofs.Tests.{flags}
 use Rattle.laws.proofs.Cases.{either, by-order}
 use Rattle.respond.specs.Decimal.{digits, decimal}
-use Rattle.respond.specs.inner.Puts.{Room, Puts}
+use Rattle.respond.specs.inner.Puts.{HasRoom, Puts}
 use Rattle.respond.proofs.Writing.{_then_, room-first, room-second}
 
 -- no more digits are looked for than there are
@@ -37,14 +37,14 @@ decimal-short (suc k) n h =
     (λ l. rw (decimal-more n l, length-append) (let f = decimal-short k (n / 10) (omega arith) in omega arith))
 
 -- a number is one digit, or the digits before the last and then the last
-module _ {at n : ℕ} (r : Room at (decimal n)) where
-  pub room-one : n < 10 → Room at ((48 + n) ∷ [])
+module _ {at n : ℕ} (r : HasRoom at (decimal n)) where
+  pub room-one : n < 10 → HasRoom at ((48 + n) ∷ [])
   room-one h = rw (decimal-one n h) at r
 
-  pub room-front : 10 ≤ n → Room at (decimal (n / 10))
+  pub room-front : 10 ≤ n → HasRoom at (decimal (n / 10))
   room-front h = room-first _ ((48 + n % 10) ∷ []) (rw (decimal-more n h) at r)
 
-  pub room-last : {l l′ : List ℕ} {next : ℕ} → 10 ≤ n → Puts l at (decimal (n / 10)) l′ next → Room next ((48 + n % 10) ∷ [])
+  pub room-last : {l l′ : List ℕ} {next : ℕ} → 10 ≤ n → Puts l at (decimal (n / 10)) l′ next → HasRoom next ((48 + n % 10) ∷ [])
   room-last h = room-second (decimal (n / 10)) _ (rw (decimal-more n h) at r)
 
 module _ {l l′ : List ℕ} {at n next : ℕ} where

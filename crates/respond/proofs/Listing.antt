@@ -7,7 +7,7 @@ use native.Mathlib.Numerals.{add-one}
 use lib.ListN.{length, take, getD, length-append}
 use lib.Seq.{take-suc, take-all}
 use Rattle.respond.specs.Lines.{word-device, numbered, device-lines}
-use Rattle.respond.specs.inner.Puts.{Room, Puts}
+use Rattle.respond.specs.inner.Puts.{HasRoom, Puts}
 use Rattle.respond.proofs.Writing.{_then_}
 use Rattle.respond.proofs.Decimals.{decimal-short}
 
@@ -15,7 +15,7 @@ use Rattle.respond.proofs.Decimals.{decimal-short}
 numbered-short : (w : List ℕ) (k n : ℕ) → n < 10 ^ suc k → length (numbered w n) ≤ length w + suc k + 2
 numbered-short w k n h = simp length-append (omega (arith, decimal-short k n h))
 
-pub numbered-room : (w : List ℕ) (k : ℕ) {at n : ℕ} → n < 10 ^ suc k → at + (length w + suc k + 2) ≤ 16384 → Room at (numbered w n)
+pub numbered-room : (w : List ℕ) (k : ℕ) {at n : ℕ} → n < 10 ^ suc k → at + (length w + suc k + 2) ≤ 16384 → HasRoom at (numbered w n)
 numbered-room w k {at} {n} h r = record { room = omega (arith, numbered-short w k n h) }
 
 pub numbered-end : (w : List ℕ) (k : ℕ) {l l′ : List ℕ} {at n next : ℕ} → n < 10 ^ suc k → Puts l at (numbered w n) l′ next → next ≤ at + (length w + suc k + 2)

@@ -16,12 +16,12 @@ use Rattle.plant_text.specs.PlantText as plant-texts
 use Rattle.plant_text.specs.PlantText.{State}
 use Rattle.query_text.specs.QueryText as query-texts
 use Rattle.respond.specs.Lines.{word-plant, word-ask, word-query, numbered, numbered₂, answer-text}
-use Rattle.respond.specs.inner.Puts.{Room, Puts}
+use Rattle.respond.specs.inner.Puts.{HasRoom, Puts}
 use Rattle.respond.specs.Respond.{program-room, of-run, of-search, of-query, of-query-text, respond, Responds}
 use Rattle.respond.proofs.Decimals.{decimal-short}
 
 -- a line of two numbers of ten digits each
-pub numbered₂-room : (w : List ℕ) {n m : ℕ} → n < 10 ^ 10 → m < 10 ^ 10 → length w + 23 ≤ 16384 → Room 0 (numbered₂ w n m)
+pub numbered₂-room : (w : List ℕ) {n m : ℕ} → n < 10 ^ 10 → m < 10 ^ 10 → length w + 23 ≤ 16384 → HasRoom 0 (numbered₂ w n m)
 numbered₂-room w {n} {m} h g r =
     record { room = simp (length-append) (omega (arith, decimal-short 9 n h, decimal-short 9 m g)) }
 

@@ -6,7 +6,7 @@ use native.Mathlib.Omega.{arith}
 use native.Mathlib.Numerals.{add-one}
 use lib.ListN.{length, take, set, getD, length-append, length-set}
 use lib.Seq.{sets, length-sets, take-suc, take-all, length-take-le}
-use Rattle.respond.specs.inner.Puts.{Room, Puts}
+use Rattle.respond.specs.inner.Puts.{HasRoom, Puts}
 
 sets-append : (a b l : List ℕ) (i : ℕ) → sets (sets l i a) (i + length a) b ≡ sets l i (a ++ b)
 sets-append [] b l i = let e : i + 0 ≡ i = omega arith in rw e
@@ -26,11 +26,11 @@ pub puts-as : {l l′ a b : List ℕ} {i n : ℕ} → Puts l i a l′ n → a �
 puts-as p e = rw e at p
 
 -- room for two writes is room for the first, and then for the second
-module _ {at : ℕ} (a b : List ℕ) (r : Room at (a ++ b)) where
-  pub room-first : Room at a
+module _ {at : ℕ} (a b : List ℕ) (r : HasRoom at (a ++ b)) where
+  pub room-first : HasRoom at a
   room-first = record { room = omega (arith, simp length-append at (r .room)) }
 
-  pub room-second : {l l′ : List ℕ} {next : ℕ} → Puts l at a l′ next → Room next b
+  pub room-second : {l l′ : List ℕ} {next : ℕ} → Puts l at a l′ next → HasRoom next b
   room-second p = record { room = omega (arith, simp length-append at (r .room), p .moved) }
 
 -- a loop that writes a word has written its first i bytes
@@ -55,18 +55,18 @@ module _ {l : List ℕ} {at : ℕ} {w : List ℕ} where
   pub part-same : {l′ : List ℕ} {i : ℕ} → PartPut l at w l′ i → length l′ ≡ length l
   part-same {i} p = ap length (p .stored) ∙ length-sets l at (take i w)
 
-  pub part-whole : {l′ : List ℕ} {i : ℕ} → Room at w → PartPut l at w l′ i → length w ≤ i → Puts l at w l′ (at + i)
+  pub part-whole : {l′ : List ℕ} {i : ℕ} → HasRoom at w → PartPut l at w l′ i → length w ≤ i → Puts l at w l′ (at + i)
   part-whole {l′} {i} r p h =
       let e : i ≡ length w = omega arith in
       record { stored = p .stored ∙ rw (take-all i w h); moved = rw e; within = omega (arith, r .room) }
 
 -- three parts after each other: a line's word, its number and what follows
 module _ {at : ℕ} (a b c : List ℕ) where
-  pub room-1 : Room at (a ++ (b ++ c)) → Room at a
+  pub room-1 : HasRoom at (a ++ (b ++ c)) → HasRoom at a
   room-1 r = room-first a (b ++ c) r
 
-  pub room-2 : {l l′ : List ℕ} {next : ℕ} → Room at (a ++ (b ++ c)) → Puts l at a l′ next → Room next b
+  pub room-2 : {l l′ : List ℕ} {next : ℕ} → HasRoom at (a ++ (b ++ c)) → Puts l at a l′ next → HasRoom next b
   room-2 r p = room-first b c (room-second a (b ++ c) r p)
 
-  pub room-3 : {l l′ l″ : List ℕ} {next third : ℕ} → Room at (a ++ (b ++ c)) → Puts l at a l′ next → Puts l′ next b l″ third → Room third c
+  pub room-3 : {l l′ l″ : List ℕ} {next third : ℕ} → HasRoom at (a ++ (b ++ c)) → Puts l at a l′ next → Puts l′ next b l″ third → HasRoom third c
   room-3 r p q = room-second b c (room-second a (b ++ c) r p) q

@@ -6,10 +6,10 @@ ghost use lib.ListN.{length};
 ghost use Rattle.respond.specs.Limits.{«device-room», «buffer-room»};
 ghost use Rattle.respond.specs.Decimal.{decimal};
 ghost use Rattle.respond.specs.Lines.{«word-device», numbered, «numbered₂», «device-lines», «answer-text»};
-ghost use Rattle.respond.specs.inner.Puts.{Room, Puts};
+ghost use Rattle.respond.specs.inner.Puts.{HasRoom, Puts};
 
 pub fn put_byte(out: &mut [u8; 16384], at: usize, b: u8) -> usize
-    requires { ⌜ Room at (b ∷ []) ⌝ }
+    requires { ⌜ HasRoom at (b ∷ []) ⌝ }
     ensures { λ r. ⌜ Puts (now (out .entry)) at (b ∷ []) (now (out .exit)) r ⌝ }
 {
     out[at] = b;
@@ -18,7 +18,7 @@ pub fn put_byte(out: &mut [u8; 16384], at: usize, b: u8) -> usize
 
 // Takes the buffer as a slice: whoever lends an array so learns its length.
 pub fn put_word(out: &mut [u8], at: usize, word: &[u8]) -> usize
-    requires { ⌜ Room at (now word) ⌝ }
+    requires { ⌜ HasRoom at (now word) ⌝ }
     requires { ⌜ length (now out) ≡ «buffer-room» ⌝ }
     ensures { λ r. ⌜ Puts (now (out .entry)) at (now (word .entry)) (now (out .exit)) r ⌝ }
 {
@@ -32,7 +32,7 @@ pub fn put_word(out: &mut [u8], at: usize, word: &[u8]) -> usize
 
 // A number: 0, or its digits without a leading zero.
 pub fn put_number(out: &mut [u8; 16384], at: usize, n: u32) -> usize
-    requires { ⌜ Room at (decimal n) ⌝ }
+    requires { ⌜ HasRoom at (decimal n) ⌝ }
     ensures { λ r. ⌜ Puts (now (out .entry)) at (decimal n) (now (out .exit)) r ⌝ }
 {
     if n < 10 {
@@ -44,7 +44,7 @@ pub fn put_number(out: &mut [u8; 16384], at: usize, n: u32) -> usize
 
 // A line of a word, a number and a closing bracket.
 pub fn put_numbered(out: &mut [u8; 16384], at: usize, word: &[u8], n: u32) -> usize
-    requires { ⌜ Room at (numbered (now word) n) ⌝ }
+    requires { ⌜ HasRoom at (numbered (now word) n) ⌝ }
     ensures { λ r. ⌜ Puts (now (out .entry)) at (numbered (now (word .entry)) n) (now (out .exit)) r ⌝ }
     ensures { λ _. ⌜ length (now (out .entry)) ≡ «buffer-room» ⌝ }
 {
@@ -55,7 +55,7 @@ pub fn put_numbered(out: &mut [u8; 16384], at: usize, word: &[u8], n: u32) -> us
 
 // A line of a word, two numbers and a closing bracket.
 pub fn put_numbered_twice(out: &mut [u8; 16384], at: usize, word: &[u8], n: u32, m: u32) -> usize
-    requires { ⌜ Room at («numbered₂» (now word) n m) ⌝ }
+    requires { ⌜ HasRoom at («numbered₂» (now word) n m) ⌝ }
     ensures { λ r. ⌜ Puts (now (out .entry)) at («numbered₂» (now (word .entry)) n m) (now (out .exit)) r ⌝ }
     ensures { λ _. ⌜ length (now (out .entry)) ≡ «buffer-room» ⌝ }
 {

@@ -7,7 +7,7 @@ use lib.Seq.{sets}
 use Rattle.respond.specs.Limits.{buffer-room}
 
 -- the buffer has room for the bytes from `at` on
-pub record Room (at : ℕ) (bytes : List ℕ) : Type 0 where
+pub record HasRoom (at : ℕ) (bytes : List ℕ) : Type 0 where
   pub room : at + length bytes ≤ buffer-room
 
 -- the bytes are stored from `at` on, no other byte of the buffer changes, and the result is where the next byte goes
