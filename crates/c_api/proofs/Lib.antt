@@ -1,2 +1,2 @@
-mod Places
+-- Laws of what is handed back.
 mod Handed

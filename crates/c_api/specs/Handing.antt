@@ -1,16 +1,12 @@
 -- How a caller in another language hands a query over, and how answers are handed back to it as numbers.
-use Prim.Native.Nat.{ℕ, zero, suc, _-_}
+use Prim.Native.Nat.{ℕ, zero, suc}
 use mathlib.Core.List.{List, [], _∷_, _++_}
-use lib.ListN.{length, take, replicate}
+use Rattle.query.specs.Query.{terms-of}
 use Rattle.query.specs.declared.Levels.{Levels}
 use Rattle.query.specs.declared.Query.{Query}
 use Rattle.search.specs.declared.Answer.{Answer}
 use Rattle.query_text.specs.declared.QueryRead.{QueryRead}
 use Rattle.plant_text.specs.declared.Outcome.{Outcome}
-
--- the first eight terms of a list, and zeros in the places left; a ninth is counted but not kept, since nine terms are refused
-unfoldable pub places : List ℕ → List ℕ
-places terms = take 8 terms ++ replicate (8 - length terms) 0
 
 -- 0: any level code; another number: a range
 abbrev pub levels-of : ℕ → ℕ → ℕ → Levels
@@ -19,15 +15,8 @@ levels-of (suc n) low high = Levels.Range low high
 
 -- the query of two lists of terms, level codes, a start and a budget
 abbrev pub query-of : List ℕ → List ℕ → Levels → ℕ → ℕ → Query
-query-of required forbidden levels start budget = record {
-  required = places required;
-  «required_count» = length required;
-  forbidden = places forbidden;
-  «forbidden_count» = length forbidden;
-  levels = levels;
-  start = start;
-  budget = budget;
-}
+query-of required forbidden levels start budget =
+    record { required = terms-of required; forbidden = terms-of forbidden; levels = levels; start = start; budget = budget }
 
 -- the three numbers beside a refusal
 abbrev pub numbers-of : Answer → List ℕ
@@ -41,7 +30,7 @@ level-numbers (Levels.Range low high) = 1 ∷ low ∷ high ∷ []
 -- the numbers of a query that was read: line, required terms, forbidden terms, level codes, start, budget
 abbrev pub query-numbers : QueryRead → List ℕ
 query-numbers r =
-    (r .line ∷ r .query .«required_count» ∷ r .query .«forbidden_count» ∷ [])
+    (r .line ∷ r .query .required .count ∷ r .query .forbidden .count ∷ [])
     ++ (level-numbers (r .query .levels) ++ (r .query .start ∷ r .query .budget ∷ []))
 
 -- how a reading of plant text ended: the refusal, or 0

@@ -1,17 +1,13 @@
 // The operations for programs in C and Rust: numbers and slices only, each with the contract of the operation that it hands on.
 // include/plant_search.h declares them.
 ghost use mathlib.Core.Path.{_≡_};
-ghost use lib.ListN.{length, getD, take};
 ghost use Rattle.plant.specs.Plant.{plant};
 ghost use Rattle.index.specs.Index as indexes;
 ghost use Rattle.index.specs.Index.{index};
-ghost use Rattle.search.specs.Answer.{answer, «answer-list»};
-ghost use Rattle.search.specs.Promises.{Promised};
-ghost use Rattle.query_text.specs.QueryText.{«read-query»};
-ghost use Rattle.plant_text.specs.PlantText as texts;
-ghost use Rattle.plant_text.specs.PlantText.{room, «plant-after», «index-after»};
+ghost use Rattle.query_text.specs.QueryText.{read-query};
 ghost use Rattle.respond.specs.Respond.{Responds};
-ghost use Rattle.c_api.specs.Handing.{«levels-of», «query-of», «numbers-of», «query-numbers», «outcome-refusal», «outcome-numbers»};
+ghost use Rattle.c_api.specs.Handing.{levels-of, query-of, query-numbers};
+ghost use Rattle.c_api.specs.Interface.{SearchHanded, PlantHanded};
 use handing::outcome_numbers;
 use handing::outcome_refusal;
 use handing::query_numbers;
@@ -29,7 +25,9 @@ pub extern "C" fn plant_search_check(
     starts: &[u32],
     postings: &[u32],
 ) -> u32
-    ensures { λ r. ⌜ r ≡ indexes.tables-refusal (plant (now (last .entry)) (now (root .entry)) (now (level .entry))) (index (now (terms .entry)) (now (starts .entry)) (now (postings .entry))) ⌝ }
+    ensures { λ r. ⌜ r ≡ indexes.tables-refusal
+        (plant (now (last .entry)) (now (root .entry)) (now (level .entry)))
+        (index (now (terms .entry)) (now (starts .entry)) (now (postings .entry))) ⌝ }
 {
     index::check(last, root, level, terms, starts, postings)
 }
@@ -54,10 +52,11 @@ pub extern "C" fn plant_search_search(
     out: &mut [u16],
     numbers: &mut [u32; 3],
 ) -> u32
-    ensures refusal { λ r. ⌜ r ≡ answer (plant (now (last .entry)) (now (root .entry)) (now (level .entry))) (index (now (terms .entry)) (now (starts .entry)) (now (postings .entry))) («query-of» (now (required .entry)) (now (forbidden .entry)) («levels-of» ranged low high) start budget) (length (now (out .entry))) .refusal ⌝ }
-    ensures numbers { λ _. ⌜ now (numbers .exit) ≡ «numbers-of» (answer (plant (now (last .entry)) (now (root .entry)) (now (level .entry))) (index (now (terms .entry)) (now (starts .entry)) (now (postings .entry))) («query-of» (now (required .entry)) (now (forbidden .entry)) («levels-of» ranged low high) start budget) (length (now (out .entry)))) ⌝ }
-    ensures listing { λ _. ⌜ now (out .exit) ≡ «answer-list» (plant (now (last .entry)) (now (root .entry)) (now (level .entry))) (index (now (terms .entry)) (now (starts .entry)) (now (postings .entry))) («query-of» (now (required .entry)) (now (forbidden .entry)) («levels-of» ranged low high) start budget) (now (out .entry)) ⌝ }
-    ensures promised { λ r. ⌜ (r ≡ 0 → Promised (plant (now (last .entry)) (now (root .entry)) (now (level .entry))) (index (now (terms .entry)) (now (starts .entry)) (now (postings .entry))) («query-of» (now (required .entry)) (now (forbidden .entry)) («levels-of» ranged low high) start budget) (take (getD (now (numbers .exit)) 0 0) (now (out .exit))) (getD (now (numbers .exit)) 1 0) (getD (now (numbers .exit)) 2 0)) ⌝ }
+    ensures { λ r. ⌜ SearchHanded
+        (plant (now (last .entry)) (now (root .entry)) (now (level .entry)))
+        (index (now (terms .entry)) (now (starts .entry)) (now (postings .entry)))
+        (query-of (now (required .entry)) (now (forbidden .entry)) (levels-of ranged low high) start budget)
+        (now (out .entry)) (now (out .exit)) (now (numbers .exit)) r ⌝ }
 {
     let query = query_of(required, forbidden, ranged, low, high, start, budget);
     let told = search::search(last, root, level, terms, starts, postings, query, out);
@@ -78,10 +77,12 @@ pub extern "C" fn plant_search_read_plant(
     postings: &mut [u32],
     numbers: &mut [usize; 4],
 ) -> u32
-    ensures refusal { λ r. ⌜ r ≡ «outcome-refusal» (texts.«outcome-of» (texts.«read-plant» (room (plant (now (last .entry)) (now (root .entry)) (now (level .entry))) (index (now (terms .entry)) (now (starts .entry)) (now (postings .entry)))) (now (text .entry)))) ⌝ }
-    ensures numbers { λ _. ⌜ now (numbers .exit) ≡ «outcome-numbers» (texts.«outcome-of» (texts.«read-plant» (room (plant (now (last .entry)) (now (root .entry)) (now (level .entry))) (index (now (terms .entry)) (now (starts .entry)) (now (postings .entry)))) (now (text .entry)))) ⌝ }
-    ensures plant { λ _. ⌜ plant (now (last .exit)) (now (root .exit)) (now (level .exit)) ≡ «plant-after» (now (text .entry)) (plant (now (last .entry)) (now (root .entry)) (now (level .entry))) (index (now (terms .entry)) (now (starts .entry)) (now (postings .entry))) ⌝ }
-    ensures index { λ _. ⌜ index (now (terms .exit)) (now (starts .exit)) (now (postings .exit)) ≡ «index-after» (now (text .entry)) (plant (now (last .entry)) (now (root .entry)) (now (level .entry))) (index (now (terms .entry)) (now (starts .entry)) (now (postings .entry))) ⌝ }
+    ensures { λ r. ⌜ PlantHanded (now (text .entry))
+        (plant (now (last .entry)) (now (root .entry)) (now (level .entry)))
+        (index (now (terms .entry)) (now (starts .entry)) (now (postings .entry)))
+        (plant (now (last .exit)) (now (root .exit)) (now (level .exit)))
+        (index (now (terms .exit)) (now (starts .exit)) (now (postings .exit)))
+        (now (numbers .exit)) r ⌝ }
 {
     let outcome = plant_text::read(text, last, root, level, terms, starts, postings);
     *numbers = outcome_numbers(outcome);
@@ -96,15 +97,15 @@ pub extern "C" fn plant_search_read_query(
     forbidden: &mut [u32; 8],
     numbers: &mut [usize; 8],
 ) -> u32
-    ensures refusal { λ r. ⌜ r ≡ «read-query» (now (text .entry)) .refusal ⌝ }
-    ensures required { λ _. ⌜ now (required .exit) ≡ «read-query» (now (text .entry)) .query .required ⌝ }
-    ensures forbidden { λ _. ⌜ now (forbidden .exit) ≡ «read-query» (now (text .entry)) .query .forbidden ⌝ }
-    ensures numbers { λ _. ⌜ now (numbers .exit) ≡ «query-numbers» («read-query» (now (text .entry))) ⌝ }
+    ensures refusal { λ r. ⌜ r ≡ read-query (now (text .entry)) .refusal ⌝ }
+    ensures required { λ _. ⌜ now (required .exit) ≡ read-query (now (text .entry)) .query .required .places ⌝ }
+    ensures forbidden { λ _. ⌜ now (forbidden .exit) ≡ read-query (now (text .entry)) .query .forbidden .places ⌝ }
+    ensures numbers { λ _. ⌜ now (numbers .exit) ≡ query-numbers (read-query (now (text .entry))) ⌝ }
 {
     let found = query_text::read(text);
     let query = found.query;
-    let first = query.required;
-    let second = query.forbidden;
+    let first = query.required.places;
+    let second = query.forbidden.places;
     *required = first;
     *forbidden = second;
     *numbers = query_numbers(found);

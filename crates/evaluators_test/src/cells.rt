@@ -102,10 +102,10 @@ pub fn in_range(levels: Levels, code: u32) -> bool {
 // Whether a query uses slot k, and the term there: 0 to 7 are its required terms, 8 to 15 its forbidden ones.
 pub fn is_used(query: Query, k: usize) -> bool {
     if k < 8 {
-        return k < query.required_count;
+        return k < query.required.count;
     }
     if k < 16 {
-        return k - 8 < query.forbidden_count;
+        return k - 8 < query.forbidden.count;
     }
     false
 }
@@ -114,10 +114,10 @@ pub fn term(query: Query, k: usize) -> u32 {
     let required = query.required;
     let forbidden = query.forbidden;
     if k < 8 {
-        return required[k];
+        return required.places[k];
     }
     if k < 16 {
-        return forbidden[k - 8];
+        return forbidden.places[k - 8];
     }
     0
 }

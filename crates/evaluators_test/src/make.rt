@@ -11,6 +11,7 @@ use crate::numbers::small;
 use crate::random::draw;
 use query::Levels;
 use query::Query;
+use query::Terms;
 
 // Where the innermost branch that holds the device at index d ends, among those before it: n where there is none.
 fn limit(last: &[u16; 16], d: u32, n: u32) -> u32 {
@@ -147,14 +148,20 @@ fn term(seed: &mut u64) -> u32 {
 
 // A query over a plant of n devices.
 pub fn query(seed: &mut u64, n: u32) -> Query {
-    let required = [term(seed), term(seed), term(seed), 0, 0, 0, 0, 0];
-    let forbidden = [term(seed), term(seed), term(seed), 0, 0, 0, 0, 0];
+    let first = [term(seed), term(seed), term(seed), 0, 0, 0, 0, 0];
+    let second = [term(seed), term(seed), term(seed), 0, 0, 0, 0, 0];
     let range = levels(seed);
+    let required = Terms {
+        places: first,
+        count: small(draw(seed, 3)),
+    };
+    let forbidden = Terms {
+        places: second,
+        count: small(draw(seed, 3)),
+    };
     Query {
         required: required,
-        required_count: small(draw(seed, 3)),
         forbidden: forbidden,
-        forbidden_count: small(draw(seed, 3)),
         levels: range,
         start: plus(1, draw(seed, plus(n, 1))),
         budget: budget(seed),

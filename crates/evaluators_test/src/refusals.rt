@@ -146,7 +146,7 @@ fn in_index(
 fn in_query(row: u32, m: usize, n: usize, query: Query, room: usize) -> bool {
     let levels = query.levels;
     match row {
-        10 => 8 < query.required_count || 8 < query.forbidden_count,
+        10 => 8 < query.required.count || 8 < query.forbidden.count,
         11 => bad_use(query, m),
         12 => bad_range(levels),
         13 => query.start == 0 || plus(number(n), 1) < query.start,

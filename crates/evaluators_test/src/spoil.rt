@@ -108,18 +108,18 @@ pub fn index(
 // 10, 11, 12, 13: a field of the query.
 pub fn query(seed: &mut u64, kind: u32, n: u32, q: Query) -> Query {
     let way = draw(seed, 2);
-    let forbidden = q.forbidden;
     let mut required = q.required;
+    let mut forbidden = q.forbidden;
     if kind == 11 {
-        required[0] = odd_term(way);
+        required.places[0] = odd_term(way);
     }
+    required.count = odd_count(kind, 0, way, required.count);
+    forbidden.count = odd_count(kind, 1, way, forbidden.count);
     let range = q.levels;
     let levels = odd_levels(kind, way, range);
     Query {
         required: required,
-        required_count: odd_count(kind, 0, way, q.required_count),
         forbidden: forbidden,
-        forbidden_count: odd_count(kind, 1, way, q.forbidden_count),
         levels: levels,
         start: odd_start(kind, way, n, q.start),
         budget: q.budget,

@@ -6,7 +6,7 @@ use lib.Dec.{ltb, eqb}
 use Rattle.laws.proofs.Tests.{tests, flags, or-no}
 use Rattle.laws.proofs.Rows.{pick-none, otherwise-none}
 use Rattle.query.specs.Query.{most-named, used}
-use Rattle.query.specs.Refusals.{no-terms, no-range, count-rows, term-rows, level-rows, start-rows, room-rows, common-refusal, query-refusal}
+use Rattle.query.specs.Refusals.{no-terms, no-range, count-rows, term-rows, level-rows, room-rows, common-refusal, query-refusal}
 use Rattle.query.specs.declared.Query.{Query}
 
 -- what the rows that a search shares with other uses of a query come to where none applies, over a plant of n devices

@@ -1,3 +1,3 @@
 -- Laws of query text.
-pub mod Rows
-pub mod Turns
+mod LineRows
+mod Turns

@@ -1,10 +1,10 @@
 -- The lines of query text (document 01: ask text): the words that they open with, and the form that a line is.
-use Prim.Native.Nat.{ℕ, _+_, min}
+use Prim.Native.Nat.{ℕ}
 use mathlib.Core.Bool.{cond}
 use mathlib.Core.List.{List, [], _∷_}
 use Rattle.text.specs.Words.{exactly, whole-form, whole-pair, or-else, or-both}
 use Rattle.query_text.specs.declared.Form.{Form}
-use Rattle.query_text.specs.declared.Form.the-variants.{Open, Required, Forbidden, Level, Start, Budget, Close, Other, Unfinished}
+use Rattle.query_text.specs.declared.Form.the-variants.{Open, Required, Forbidden, Level, Start, Budget, Close, Other}
 
 -- `(ask`
 abbrev pub word-open : List ℕ
@@ -45,15 +45,3 @@ form l =
     (or-else (whole-form word-budget l) Budget
     (cond (exactly word-close l) Close
     Other))))))
-
--- a form whose numbers are known up to a limit: one past the limit stands for all above it
-abbrev pub capped-form : ℕ → Form → Form
-capped-form limit Open = Open
-capped-form limit (Required n) = Required (min n (limit + 1))
-capped-form limit (Forbidden n) = Forbidden (min n (limit + 1))
-capped-form limit (Level low high) = Level (min low (limit + 1)) (min high (limit + 1))
-capped-form limit (Start n) = Start (min n (limit + 1))
-capped-form limit (Budget n) = Budget (min n (limit + 1))
-capped-form limit Close = Close
-capped-form limit Other = Other
-capped-form limit Unfinished = Unfinished

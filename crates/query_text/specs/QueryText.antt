@@ -1,16 +1,16 @@
 -- Query text (document 01: ask text), read line by line.
-use Prim.Native.Nat.{ℕ, _+_}
+use Prim.Native.Nat.{ℕ}
 use mathlib.Core.Bool.{Bool, true, false, cond, _&&_, _||_}
 use mathlib.Core.List.{List}
 use lib.Dec.{leb, ltb, eqb}
-use lib.ListN.{length, set}
+use lib.ListN.{length}
+use Rattle.laws.specs.Limits.{largest-number}
 use Rattle.laws.specs.Rows.{pick}
-use Rattle.text.specs.Lines.{line-at}
 use Rattle.text.specs.Reading.{Step, to, Read, made, no, unless, reading}
-use Rattle.query.specs.Query.{empty}
+use Rattle.query.specs.Query.{most-named, empty, with-required, with-forbidden, with-levels, with-start, with-budget}
 use Rattle.query.specs.declared.Query.{Query}
 use Rattle.query.specs.declared.Levels.{Levels}
-use Rattle.query_text.specs.Form.{form, capped-form}
+use Rattle.query_text.specs.Form.{form}
 use Rattle.query_text.specs.declared.Form.{Form}
 use Rattle.query_text.specs.declared.Form.the-variants.{Open, Required, Forbidden, Level, Start, Budget, Close, Other, Unfinished}
 use Rattle.query_text.specs.declared.Draft.{Draft}
@@ -29,6 +29,10 @@ rank Close = 7
 rank Other = 0
 rank Unfinished = 0
 
+-- the stage after the close: no line may follow
+abbrev pub closed-stage : ℕ
+closed-stage = 8
+
 -- the stage after a line: need and not lines may repeat, "at most one each of level, from and moves"
 abbrev pub next-stage : Form → ℕ
 next-stage Open = 2
@@ -37,7 +41,7 @@ next-stage (Forbidden n) = 3
 next-stage (Level low high) = 5
 next-stage (Start n) = 6
 next-stage (Budget n) = 7
-next-stage Close = 8
+next-stage Close = closed-stage
 next-stage Other = 0
 next-stage Unfinished = 0
 
@@ -50,7 +54,7 @@ abbrev pub begun : Draft
 begun = record { stage = 1; query = empty }
 
 abbrev pub closed : Draft → Bool
-closed d = eqb (d .stage) 8
+closed d = eqb (d .stage) closed-stage
 
 abbrev pub unfinished : Form → Bool
 unfinished Open = false
@@ -66,11 +70,11 @@ unfinished Unfinished = true
 -- 32: "a number over 4,294,967,295"
 abbrev pub over : Form → Bool
 over Open = false
-over (Required n) = ltb 4294967295 n
-over (Forbidden n) = ltb 4294967295 n
-over (Level low high) = ltb 4294967295 low || ltb 4294967295 high
-over (Start n) = ltb 4294967295 n
-over (Budget n) = ltb 4294967295 n
+over (Required n) = ltb largest-number n
+over (Forbidden n) = ltb largest-number n
+over (Level low high) = ltb largest-number low || ltb largest-number high
+over (Start n) = ltb largest-number n
+over (Budget n) = ltb largest-number n
 over Close = false
 over Other = false
 over Unfinished = false
@@ -78,8 +82,8 @@ over Unfinished = false
 -- 35: "a ninth need or not line"
 abbrev pub ninth : Query → Form → Bool
 ninth q Open = false
-ninth q (Required n) = leb 8 (q .«required_count»)
-ninth q (Forbidden n) = leb 8 (q .«forbidden_count»)
+ninth q (Required n) = leb most-named (q .required .count)
+ninth q (Forbidden n) = leb most-named (q .forbidden .count)
 ninth q (Level low high) = false
 ninth q (Start n) = false
 ninth q (Budget n) = false
@@ -99,51 +103,11 @@ line-refusal d f =
 
 -- the query with one line more
 abbrev pub with-form : Query → Form → Query
-with-form q (Required n) = record {
-  required = set (q .required) (q .«required_count») n;
-  «required_count» = q .«required_count» + 1;
-  forbidden = q .forbidden;
-  «forbidden_count» = q .«forbidden_count»;
-  levels = q .levels;
-  start = q .start;
-  budget = q .budget;
-}
-with-form q (Forbidden n) = record {
-  required = q .required;
-  «required_count» = q .«required_count»;
-  forbidden = set (q .forbidden) (q .«forbidden_count») n;
-  «forbidden_count» = q .«forbidden_count» + 1;
-  levels = q .levels;
-  start = q .start;
-  budget = q .budget;
-}
-with-form q (Level low high) = record {
-  required = q .required;
-  «required_count» = q .«required_count»;
-  forbidden = q .forbidden;
-  «forbidden_count» = q .«forbidden_count»;
-  levels = Levels.Range low high;
-  start = q .start;
-  budget = q .budget;
-}
-with-form q (Start n) = record {
-  required = q .required;
-  «required_count» = q .«required_count»;
-  forbidden = q .forbidden;
-  «forbidden_count» = q .«forbidden_count»;
-  levels = q .levels;
-  start = n;
-  budget = q .budget;
-}
-with-form q (Budget n) = record {
-  required = q .required;
-  «required_count» = q .«required_count»;
-  forbidden = q .forbidden;
-  «forbidden_count» = q .«forbidden_count»;
-  levels = q .levels;
-  start = q .start;
-  budget = n;
-}
+with-form q (Required n) = with-required q n
+with-form q (Forbidden n) = with-forbidden q n
+with-form q (Level low high) = with-levels q (Levels.Range low high)
+with-form q (Start n) = with-start q n
+with-form q (Budget n) = with-budget q n
 with-form q Open = q
 with-form q Close = q
 with-form q Other = q
@@ -168,9 +132,9 @@ told (made d) = record { refusal = 0; line = 0; query = d .query }
 told (no n k) = record { refusal = n; line = k; query = empty }
 
 -- 30: "over 4,096 bytes (line 0)"
-unfoldable pub read-query : List ℕ → QueryRead
-read-query t = told (cond (ltb 4096 (length t)) (no 30 0) (reading line end begun 1 t))
+abbrev pub longest-text : ℕ
+longest-text = 4_096
 
--- the form of the line at an index, its numbers up to the limit
-abbrev pub form-at : List ℕ → ℕ → Form
-form-at t at = cond (ltb (at + length (line-at t at)) (length t)) (capped-form 4294967295 (form (line-at t at))) Unfinished
+-- the query of a text, or its refusal
+unfoldable pub read-query : List ℕ → QueryRead
+read-query t = told (cond (ltb longest-text (length t)) (no 30 0) (reading line end begun 1 t))

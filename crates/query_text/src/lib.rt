@@ -5,16 +5,18 @@ use text::Number;
 use text::Numbers;
 ghost use mathlib.Core.Path.{_≡_};
 ghost use mathlib.Core.Bool.{false, _&&_};
-ghost use Prim.Native.Nat.{_+_, _≤_, _<_};
+ghost use Prim.Native.Nat.{_+_, _≤_};
 ghost use lib.Dec.{ltb, eqb};
 ghost use lib.ListN.{length};
-ghost use Rattle.text.specs.Lines.{«line-at»};
+ghost use Rattle.laws.specs.Limits.{largest-number};
+ghost use Rattle.text.specs.Lines.{line-at};
 ghost use Rattle.text.specs.Reading.{made, no};
-ghost use Rattle.query_text.specs.Form.{form, «capped-form»};
-ghost use Rattle.query_text.specs.QueryText.{begun, closed, rank, «next-stage», «out-of-order», unfinished, over, ninth, «line-refusal», «with-form», «with-line», «form-at», told, read-query};
+ghost use Rattle.query_text.specs.Form.{form};
+ghost use Rattle.query_text.specs.QueryText.{begun, closed, rank, next-stage, out-of-order, unfinished, over, ninth, line-refusal, with-form, with-line, told, read-query};
+ghost use Rattle.query_text.specs.inner.Capped.{capped-form, form-at};
 
 // The largest number of a line. A larger one is read as one above it.
-const LIMIT: u32 = 4294967295;
+const LARGEST_NUMBER: u32 = 4294967295;
 
 const LONGEST_TEXT: usize = 4096;
 
@@ -121,7 +123,7 @@ fn is_finished(draft: Draft, left: usize) -> bool
 // The line that begins at `at`.
 fn line_at(text: &[u8], at: usize) -> Line
     requires { ⌜ at ≤ length (now text) ⌝ }
-    ensures { λ r. ⌜ (r .form ≡ «form-at» (now (text .entry)) at) × (r .next ≡ at + length («line-at» (now (text .entry)) at) + 1) ⌝ }
+    ensures { λ r. ⌜ (r .form ≡ form-at (now (text .entry)) at) × (r .next ≡ at + length (line-at (now (text .entry)) at) + 1) ⌝ }
 {
     let line = text::line(text, at);
     let end = at + line.len();
@@ -141,24 +143,24 @@ fn line_at(text: &[u8], at: usize) -> Line
 
 // The form of a whole line.
 fn form_of(line: &[u8]) -> Form
-    ensures { λ r. ⌜ r ≡ «capped-form» 4294967295 (form (now (line .entry))) ⌝ }
+    ensures { λ r. ⌜ r ≡ capped-form largest-number (form (now (line .entry))) ⌝ }
 {
     if text::is_exactly(line, b"(ask") {
         return Form::Open;
     }
-    if let Number::Value(n) = text::whole_number(line, b"(need ", LIMIT) {
+    if let Number::Value(n) = text::whole_number(line, b"(need ", LARGEST_NUMBER) {
         return Form::Required(n);
     }
-    if let Number::Value(n) = text::whole_number(line, b"(not ", LIMIT) {
+    if let Number::Value(n) = text::whole_number(line, b"(not ", LARGEST_NUMBER) {
         return Form::Forbidden(n);
     }
-    if let Numbers::Both(low, high) = text::whole_numbers(line, b"(level ", LIMIT) {
+    if let Numbers::Both(low, high) = text::whole_numbers(line, b"(level ", LARGEST_NUMBER) {
         return Form::Level(low, high);
     }
-    if let Number::Value(n) = text::whole_number(line, b"(from ", LIMIT) {
+    if let Number::Value(n) = text::whole_number(line, b"(from ", LARGEST_NUMBER) {
         return Form::Start(n);
     }
-    if let Number::Value(n) = text::whole_number(line, b"(moves ", LIMIT) {
+    if let Number::Value(n) = text::whole_number(line, b"(moves ", LARGEST_NUMBER) {
         return Form::Budget(n);
     }
     if text::is_exactly(line, b")") {
@@ -169,7 +171,7 @@ fn form_of(line: &[u8]) -> Form
 
 // The refusal of a line, or 0: the first row that applies.
 fn line_refusal(draft: Draft, form: Form) -> u32
-    ensures { λ r. ⌜ r ≡ «line-refusal» draft form ⌝ }
+    ensures { λ r. ⌜ r ≡ line-refusal draft form ⌝ }
 {
     let query = draft.query;
     let unfinished = is_unfinished(form);
@@ -229,7 +231,7 @@ fn rank(form: Form) -> u32
 
 // The lowest rank that the line after a line may have: a need or not line may repeat.
 fn next_stage(form: Form) -> u32
-    ensures { λ r. ⌜ r ≡ «next-stage» form ⌝ }
+    ensures { λ r. ⌜ r ≡ next-stage form ⌝ }
 {
     match form {
         Form::Open => 2,
@@ -246,7 +248,7 @@ fn next_stage(form: Form) -> u32
 
 // Whether a line of rank r may not stand at a stage: its rank is too low, or it is first and does not open the query.
 fn is_out_of_order(stage: u32, r: u32) -> bool
-    ensures { λ b. ⌜ b ≡ «out-of-order» stage r ⌝ }
+    ensures { λ b. ⌜ b ≡ out-of-order stage r ⌝ }
 {
     r < stage || (stage == 1 && 1 < r)
 }
@@ -269,9 +271,9 @@ fn is_over(form: Form) -> bool
 }
 
 fn exceeds(n: u64) -> bool
-    ensures { λ r. ⌜ r ≡ ltb 4294967295 n ⌝ }
+    ensures { λ r. ⌜ r ≡ ltb largest-number n ⌝ }
 {
-    (LIMIT as u64) < n
+    (LARGEST_NUMBER as u64) < n
 }
 
 // Whether a line is a ninth need or not line.
@@ -279,8 +281,8 @@ fn is_ninth(query: Query, form: Form) -> bool
     ensures { λ r. ⌜ r ≡ ninth query form ⌝ }
 {
     match form {
-        Form::Required(_) => Query::MOST_TERMS <= query.required_count,
-        Form::Forbidden(_) => Query::MOST_TERMS <= query.forbidden_count,
+        Form::Required(_) => Query::MOST_TERMS <= query.required.count,
+        Form::Forbidden(_) => Query::MOST_TERMS <= query.forbidden.count,
         Form::Open => false,
         Form::Level(_, _) => false,
         Form::Start(_) => false,
@@ -293,8 +295,8 @@ fn is_ninth(query: Query, form: Form) -> bool
 
 // What the lines make with one line more.
 fn with_line(draft: Draft, form: Form) -> Draft
-    requires { ⌜ «line-refusal» draft form ≡ 0 ⌝ }
-    ensures { λ r. ⌜ r ≡ «with-line» draft form ⌝ }
+    requires { ⌜ line-refusal draft form ≡ 0 ⌝ }
+    ensures { λ r. ⌜ r ≡ with-line draft form ⌝ }
 {
     let before = draft.query;
     let query = with_form(before, form);
@@ -306,68 +308,18 @@ fn with_line(draft: Draft, form: Form) -> Draft
 
 // The query with one line more.
 fn with_form(query: Query, form: Form) -> Query
-    requires { ⌜ (over form ≡ false) × (ninth query form ≡ false) ⌝ }
-    ensures { λ r. ⌜ r ≡ «with-form» query form ⌝ }
+    requires { ⌜ over form ≡ false ⌝ }
+    ensures { λ r. ⌜ r ≡ with-form query form ⌝ }
 {
     match form {
-        Form::Required(n) => with_required(query, n as u32),
-        Form::Forbidden(n) => with_forbidden(query, n as u32),
-        Form::Level(low, high) => with_levels(query, low as u32, high as u32),
-        Form::Start(n) => with_start(query, n as u32),
-        Form::Budget(n) => with_budget(query, n as u32),
+        Form::Required(n) => query.with_required(n as u32),
+        Form::Forbidden(n) => query.with_forbidden(n as u32),
+        Form::Level(low, high) => query.with_levels(Levels::Range(low as u32, high as u32)),
+        Form::Start(n) => query.with_start(n as u32),
+        Form::Budget(n) => query.with_budget(n as u32),
         Form::Open => query,
         Form::Close => query,
         Form::Other => query,
         Form::Unfinished => query,
     }
-}
-
-fn with_required(mut query: Query, n: u32) -> Query
-    requires { ⌜ query .«required_count» < 8 ⌝ }
-    ensures { λ r. ⌜ r ≡ «with-form» query (Form.Required n) ⌝ }
-{
-    let i = query.required_count;
-    query.required[i] = n;
-    query.required_count = i + 1;
-    query
-}
-
-fn with_forbidden(mut query: Query, n: u32) -> Query
-    requires { ⌜ query .«forbidden_count» < 8 ⌝ }
-    ensures { λ r. ⌜ r ≡ «with-form» query (Form.Forbidden n) ⌝ }
-{
-    let i = query.forbidden_count;
-    query.forbidden[i] = n;
-    query.forbidden_count = i + 1;
-    query
-}
-
-fn with_levels(query: Query, low: u32, high: u32) -> Query
-    ensures { λ r. ⌜ r ≡ «with-form» query (Form.Level low high) ⌝ }
-{
-    let required = query.required;
-    let forbidden = query.forbidden;
-    Query {
-        required: required,
-        required_count: query.required_count,
-        forbidden: forbidden,
-        forbidden_count: query.forbidden_count,
-        levels: Levels::Range(low, high),
-        start: query.start,
-        budget: query.budget,
-    }
-}
-
-fn with_start(mut query: Query, n: u32) -> Query
-    ensures { λ r. ⌜ r ≡ «with-form» query (Form.Start n) ⌝ }
-{
-    query.start = n;
-    query
-}
-
-fn with_budget(mut query: Query, n: u32) -> Query
-    ensures { λ r. ⌜ r ≡ «with-form» query (Form.Budget n) ⌝ }
-{
-    query.budget = n;
-    query
 }

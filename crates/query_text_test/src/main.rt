@@ -4,6 +4,7 @@ use libc::STDIN_FILENO;
 use libc::STDOUT_FILENO;
 use query::Levels;
 use query::Query;
+use query::Terms;
 ghost use Prim.Native.Nat.{_≤_, _<_};
 ghost use lib.ListN.{length};
 
@@ -16,11 +17,12 @@ fn number(n: u32) {
     io::print_decimal(STDOUT_FILENO, n as u64);
 }
 
-// Prints the whole array and the count of terms in use.
-fn terms(name: &[u8], list: [u32; 8], count: usize) {
+// Prints all places and the count of terms in use.
+fn show_terms(name: &[u8], terms: Terms) {
+    let list = terms.places;
     print(name);
     print(b" ");
-    io::print_decimal(STDOUT_FILENO, count as u64);
+    io::print_decimal(STDOUT_FILENO, terms.count as u64);
     print(b" of");
     number(list[0]);
     number(list[1]);
@@ -48,8 +50,8 @@ fn levels(l: Levels) {
 fn show(q: Query) {
     let required = q.required;
     let forbidden = q.forbidden;
-    terms(b"required", required, q.required_count);
-    terms(b", forbidden", forbidden, q.forbidden_count);
+    show_terms(b"required", required);
+    show_terms(b", forbidden", forbidden);
     let l = q.levels;
     levels(l);
     print(b", start");

@@ -1,14 +1,8 @@
 -- `c_api::plant_search_read_plant` meets its contract: it hands on what the reader leaves in the tables, and its outcome as numbers.
 use borrow.Author.Needs.{needs}
-use mathlib.Core.Path.{ap, _∙_}
-use Rattle.c_api.specs.Handing.{outcome-refusal, outcome-numbers}
+use Rattle.c_api.proofs.Handed.{plant-handed}
 use Rattle.c_api.proofs.plant_search_read_plant.Statement.{statement}
 use Rattle.c_api.proofs.plant_search_read_plant.Tie as tie
-
-returns : tie.Need-returns
-returns c =
-    let e = c .before .before .before .before .before .before .before .before .before .before .before .before .before .before .read .ensures in
-    (c .outcome-refusal .ensures ∙ ap outcome-refusal (e .0), (c .before .outcome-numbers .ensures ∙ ap outcome-numbers (e .0), e .1))
 
 pub plant-search-read-plant-spec : {M : Type 1} → statement M
 plant-search-read-plant-spec =
@@ -23,4 +17,4 @@ plant-search-read-plant-spec =
     (λ c. search needs)
     (λ c. search needs)
     (λ c. search needs)
-    returns)
+    (λ c. search (plant-handed, needs)))

@@ -11,8 +11,8 @@ returns c =
     let e = c .before .before .before .before .read .ensures in (
       ap (λ (r : QueryRead). r .refusal) e,
       (
-        ap (λ (r : QueryRead). r .query .required) e,
-        (ap (λ (r : QueryRead). r .query .forbidden) e, c .query-numbers .ensures ∙ ap query-numbers e),
+        ap (λ (r : QueryRead). r .query .required .places) e,
+        (ap (λ (r : QueryRead). r .query .forbidden .places) e, c .query-numbers .ensures ∙ ap query-numbers e),
       ),
     )
 

@@ -5,12 +5,13 @@ use mathlib.Core.List.{List}
 use Prim.Native.Nat.{ℕ}
 use denote.Ref.{now}
 use borrow.Author.Needs.{needs}
+use Rattle.laws.specs.Limits.{largest-number}
 use Rattle.text.specs.Words.{exactly, whole-form, whole-pair}
 use Rattle.text.specs.Decimal.{capped, capped-both}
 use Rattle.text.specs.declared.Number.the-variants as number
 use Rattle.text.specs.declared.Numbers.the-variants as numbers
 use Rattle.query_text.specs.Form.{word-open, word-required, word-forbidden, word-level, word-start, word-budget}
-use Rattle.query_text.proofs.Rows.{form-up-to}
+use Rattle.query_text.proofs.LineRows.{form-up-to}
 use Rattle.query_text.proofs.form_of.Statement.{statement}
 use Rattle.query_text.proofs.form_of.Tie as tie
 
@@ -36,41 +37,41 @@ line₆ c = line₅ (c .before .before .before .before)
 no-open : (c : tie.Else1) → exactly word-open (line c) ≡ false
 no-open c = sym (c .before .is-exactly .ensures) ∙ c .if1 .left
 
-no-required : (c : tie.After-enum-told) → capped 4294967295 (whole-form word-required (line₂ c)) ≡ number.Missing
+no-required : (c : tie.After-enum-told) → capped largest-number (whole-form word-required (line₂ c)) ≡ number.Missing
 no-required c = sym (c .before .before .whole-number .ensures) ∙ c .enum-told .given .1
 
-no-forbidden : (c : tie.After-enum-told2) → capped 4294967295 (whole-form word-forbidden (line₃ c)) ≡ number.Missing
+no-forbidden : (c : tie.After-enum-told2) → capped largest-number (whole-form word-forbidden (line₃ c)) ≡ number.Missing
 no-forbidden c = sym (c .before .before .whole-number2 .ensures) ∙ c .enum-told2 .given .1
 
-no-level : (c : tie.After-enum-told3) → capped-both 4294967295 (whole-pair word-level (line₄ c)) ≡ numbers.Missing
+no-level : (c : tie.After-enum-told3) → capped-both largest-number (whole-pair word-level (line₄ c)) ≡ numbers.Missing
 no-level c = sym (c .before .before .whole-numbers .ensures) ∙ c .enum-told3 .given .1
 
-no-start : (c : tie.After-enum-told4) → capped 4294967295 (whole-form word-start (line₅ c)) ≡ number.Missing
+no-start : (c : tie.After-enum-told4) → capped largest-number (whole-form word-start (line₅ c)) ≡ number.Missing
 no-start c = sym (c .before .before .whole-number3 .ensures) ∙ c .enum-told4 .given .1
 
-no-budget : (c : tie.After-enum-told5) → capped 4294967295 (whole-form word-budget (line₆ c)) ≡ number.Missing
+no-budget : (c : tie.After-enum-told5) → capped largest-number (whole-form word-budget (line₆ c)) ≡ number.Missing
 no-budget c = sym (c .before .before .whole-number4 .ensures) ∙ c .enum-told5 .given .1
 
 returns : tie.Need-returns
-returns c = rw (form-up-to 4294967295 (now (c .before .before .before .before .args .line)), sym (c .before .is-exactly .ensures) ∙ c .if1 .taken)
+returns c = rw (form-up-to largest-number (now (c .before .before .before .before .args .line)), sym (c .before .is-exactly .ensures) ∙ c .if1 .taken)
 
 returns-2 : tie.Need-returns-2
 returns-2 c =
     let p = c .before .before .before .before .before in
-    rw (form-up-to 4294967295 (line p), no-open p, sym (c .before .before .before .whole-number .ensures) ∙ c .before .n .given .1)
+    rw (form-up-to largest-number (line p), no-open p, sym (c .before .before .before .whole-number .ensures) ∙ c .before .n .given .1)
 
 returns-3 : tie.Need-returns-3
 returns-3 c =
     let p = c .before .before .before .before .before in
     let q = p .before .before .before .before in
-    rw (form-up-to 4294967295 (line₂ p), no-open q, no-required p, sym (c .before .before .before .whole-number2 .ensures) ∙ c .before .n2 .given .1)
+    rw (form-up-to largest-number (line₂ p), no-open q, no-required p, sym (c .before .before .before .whole-number2 .ensures) ∙ c .before .n2 .given .1)
 
 returns-4 : tie.Need-returns-4
 returns-4 c =
     let p = c .before .before .before .before .before in
     let q = p .before .before .before .before in
     let r = q .before .before .before .before in
-    rw (form-up-to 4294967295 (line₃ p), no-open r, no-required q, no-forbidden p, sym (c .before .before .before .whole-numbers .ensures) ∙ c .before .low .given .1)
+    rw (form-up-to largest-number (line₃ p), no-open r, no-required q, no-forbidden p, sym (c .before .before .before .whole-numbers .ensures) ∙ c .before .low .given .1)
 
 returns-5 : tie.Need-returns-5
 returns-5 c =
@@ -78,7 +79,7 @@ returns-5 c =
     let q = p .before .before .before .before in
     let r = q .before .before .before .before in
     let s = r .before .before .before .before in
-    rw (form-up-to 4294967295 (line₄ p), no-open s, no-required r, no-forbidden q, no-level p, sym (c .before .before .before .whole-number3 .ensures) ∙ c .before .n3 .given .1)
+    rw (form-up-to largest-number (line₄ p), no-open s, no-required r, no-forbidden q, no-level p, sym (c .before .before .before .whole-number3 .ensures) ∙ c .before .n3 .given .1)
 
 returns-6 : tie.Need-returns-6
 returns-6 c =
@@ -87,7 +88,7 @@ returns-6 c =
     let r = q .before .before .before .before in
     let s = r .before .before .before .before in
     let t = s .before .before .before .before in
-    rw (form-up-to 4294967295 (line₅ p), no-open t, no-required s, no-forbidden r, no-level q, no-start p, sym (c .before .before .before .whole-number4 .ensures) ∙ c .before .n4 .given .1)
+    rw (form-up-to largest-number (line₅ p), no-open t, no-required s, no-forbidden r, no-level q, no-start p, sym (c .before .before .before .whole-number4 .ensures) ∙ c .before .n4 .given .1)
 
 returns-7 : tie.Need-returns-7
 returns-7 c =
@@ -97,7 +98,7 @@ returns-7 c =
     let s = r .before .before .before .before in
     let t = s .before .before .before .before in
     let u = t .before .before .before .before in
-    rw (form-up-to 4294967295 (line₆ p), no-open u, no-required t, no-forbidden s, no-level r, no-start q, no-budget p, sym (c .before .is-exactly2 .ensures) ∙ c .if2 .taken)
+    rw (form-up-to largest-number (line₆ p), no-open u, no-required t, no-forbidden s, no-level r, no-start q, no-budget p, sym (c .before .is-exactly2 .ensures) ∙ c .if2 .taken)
 
 returns-8 : tie.Need-returns-8
 returns-8 c =
@@ -107,7 +108,7 @@ returns-8 c =
     let s = r .before .before .before .before in
     let t = s .before .before .before .before in
     let u = t .before .before .before .before in
-    rw (form-up-to 4294967295 (line₆ p), no-open u, no-required t, no-forbidden s, no-level r, no-start q, no-budget p, sym (c .before .is-exactly2 .ensures) ∙ c .if2 .left)
+    rw (form-up-to largest-number (line₆ p), no-open u, no-required t, no-forbidden s, no-level r, no-start q, no-budget p, sym (c .before .is-exactly2 .ensures) ∙ c .if2 .left)
 
 pub form-of-spec : {M : Type 1} → statement M
 form-of-spec =

@@ -1,6 +1,6 @@
 -- `query_text::line_refusal` meets its contract: each return is the first row that applies.
 use borrow.Author.Needs.{needs}
-use Rattle.query_text.proofs.Rows.{row-34, row-33, row-31, row-32, row-35, no-row}
+use Rattle.query_text.proofs.LineRows.{row-34, row-33, row-31, row-32, row-35, no-row}
 use Rattle.query_text.proofs.line_refusal.Statement.{statement}
 use Rattle.query_text.proofs.line_refusal.Tie as tie
 

@@ -1,5 +1,5 @@
 -- `query_text::with_line` meets its contract.
-use Rattle.query_text.proofs.Rows.{accepted-line}
+use Rattle.query_text.proofs.LineRows.{accepted-line}
 use Rattle.query_text.proofs.with_line.Statement.{statement}
 use Rattle.query_text.proofs.with_line.Tie as tie
 use borrow.Author.Needs.{needs}

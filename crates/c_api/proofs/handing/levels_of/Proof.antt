@@ -1,3 +1,4 @@
+-- `c_api::handing::levels_of` meets its contract, by whether `ranged` is 0.
 use Prim.Native.Nat.{ℕ, zero, suc}
 use mathlib.Core.Path.{_≡_, refl}
 use Rattle.query.specs.declared.Levels.{Levels}

@@ -7,7 +7,7 @@ returns : tie.Need-returns
 returns c = rw (c .before .outcome .given .1)
 
 returns-2 : tie.Need-returns-2
-returns-2 c = rw (c .wide .ensures, c .before .before .outcome2 .given .1)
+returns-2 c = rw (c .u32-to-usize .ensures, c .before .before .outcome2 .given .1)
 
 pub outcome-numbers-spec : {M : Type 1} → statement M
 outcome-numbers-spec = tie.close (tie.spec (λ c. search needs) (λ c. search needs) (λ c κs. search needs) returns returns-2)

@@ -16,7 +16,7 @@ one-by-one (Levels.Range low high) rest = refl
 returns : tie.Need-returns
 returns c =
     let s = c .before .before .before in
-    rw (c .before .before .wide .ensures, c .before .wide2 .ensures, c .wide3 .ensures, s .level-numbers .ensures, one-by-one (s .before .before .args .read .query .levels) _)
+    rw (c .before .before .u32-to-usize .ensures, c .before .u32-to-usize2 .ensures, c .u32-to-usize3 .ensures, s .level-numbers .ensures, one-by-one (s .before .before .args .read .query .levels) _)
 
 pub query-numbers-spec : {M : Type 1} → statement M
 query-numbers-spec =

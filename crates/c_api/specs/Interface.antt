@@ -1,0 +1,26 @@
+-- What to believe of the functions for C that give several things back.
+use Prim.Native.Nat.{ℕ}
+use mathlib.Core.Path.{_≡_}
+use mathlib.Core.List.{List}
+use lib.ListN.{length, take, getD}
+use Rattle.plant.specs.Plant.{Plant}
+use Rattle.index.specs.Index.{Index}
+use Rattle.query.specs.declared.Query.{Query}
+use Rattle.search.specs.Answer.{answer, answer-list}
+use Rattle.search.specs.Promises.{Promised}
+use Rattle.plant_text.specs.PlantText.{outcome-after, plant-after, index-after}
+use Rattle.c_api.specs.Handing.{numbers-of, outcome-refusal, outcome-numbers}
+
+-- `plant_search_search`: the refusal r, the three numbers beside it and the answer list, which was `out`
+pub record SearchHanded (P : Plant) (I : Index) (q : Query) (out out′ three : List ℕ) (r : ℕ) : Type 0 where
+  pub refusal : r ≡ answer P I q (length out) .refusal
+  pub numbers : three ≡ numbers-of (answer P I q (length out))
+  pub listing : out′ ≡ answer-list P I q out
+  pub promised : r ≡ 0 → Promised P I q (take (getD three 0 0) out′) (getD three 1 0) (getD three 2 0)
+
+-- `plant_search_read_plant`: the refusal r, the four numbers beside it and the tables, which were those of P and I
+pub record PlantHanded (text : List ℕ) (P : Plant) (I : Index) (P′ : Plant) (I′ : Index) (four : List ℕ) (r : ℕ) : Type 0 where
+  pub refusal : r ≡ outcome-refusal (outcome-after text P I)
+  pub numbers : four ≡ outcome-numbers (outcome-after text P I)
+  pub plant : P′ ≡ plant-after text P I
+  pub index : I′ ≡ index-after text P I
