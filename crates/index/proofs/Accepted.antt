@@ -4,16 +4,15 @@ use mathlib.Core.Path.{_≡_, sym}
 use mathlib.Core.Bool.{false, _||_}
 use mathlib.Core.List.{List, [], _∷_}
 use native.Mathlib.Omega.{arith}
-use lib.ListN.{length, getD, length-take, length-drop, List·getD-eq-default}
+use lib.ListN.{length, getD, List·getD-eq-default}
 use Rattle.laws.specs.Search.{any, lowest}
 use Rattle.laws.specs.Tables.{entry}
-use Rattle.plant.specs.Plant as plants
-use Rattle.plant.specs.Plant.{Plant}
+use Rattle.plant.specs.Plant.{Plant, size, plant-refusal}
 use Rattle.laws.specs.inner.Entries.{IsEntry}
 use Rattle.index.specs.Postings.{device}
 use Rattle.index.specs.Forward.{Sorted}
 use Rattle.index.specs.inner.Lists.{SoundList}
-use Rattle.index.specs.Index.{Index, count, list, is-term, list-of, misplaced-term, wrong-start, stray, misplaced-in, redundant-in, unfit, index-refusal, tables-refusal}
+use Rattle.index.specs.Index.{Index, count, list, is-term, list-of, misplaced-term, wrong-start, stray, misplaced-in, redundant-in, unfit, index-rows, tables-refusal, most-terms, most-postings}
 use Rattle.laws.proofs.Tests.{tests, or-no}
 use Rattle.laws.proofs.Cases.{by-order, split-cond}
 use Rattle.laws.proofs.Rows.{otherwise-none, pick-none}
@@ -28,25 +27,25 @@ Rising n a (q ∷ qs) = (a < device q) × (device q ≤ n) × Rising n (device q
 
 -- what the rows come to where none applies
 pub record Accepted (P : Plant) (I : Index) : Type 0 where
-  pub tables : plants.plant-refusal P ≡ 0
+  pub tables : plant-refusal P ≡ 0
   pub even : length (I .starts) ≡ count I
-  pub few-terms : count I ≤ 8192
-  pub few-postings : length (I .postings) ≤ 1048576
+  pub few-terms : count I ≤ most-terms
+  pub few-postings : length (I .postings) ≤ most-postings
   pub terms-rise : any (count I) (misplaced-term I) ≡ false
   pub starts-rise : any (count I) (wrong-start I) ≡ false
   pub none-stray : stray I ≡ false
-  pub devices-rise : any (count I) (misplaced-in P I) ≡ false
-  pub none-redundant : any (count I) (redundant-in P I) ≡ false
+  pub devices-rise : any (count I) (misplaced-in (size P) I) ≡ false
+  pub none-redundant : any (count I) (redundant-in (P .last) I) ≡ false
 
 pub accepted : (P : Plant) (I : Index) → tables-refusal P I ≡ 0 → Accepted P I
-unfolding tables-refusal
+unfolding tables-refusal index-rows
 accepted P I h =
-    let a = otherwise-none (plants.plant-refusal P) (index-refusal P I) h in
+    let a = otherwise-none (plant-refusal P) (index-rows 5 (P .last) I) h in
     let r5 = pick-none (unfit I) 4 _ (a .1) in
     let r6 = pick-none (any (count I) (misplaced-term I)) 5 _ (r5 .1) in
     let r7 = pick-none (any (count I) (wrong-start I) || stray I) 6 _ (r6 .1) in
-    let r8 = pick-none (any (count I) (misplaced-in P I)) 7 _ (r7 .1) in
-    let r9 = pick-none (any (count I) (redundant-in P I)) 8 _ (r8 .1) in
+    let r8 = pick-none (any (count I) (misplaced-in (size P) I)) 7 _ (r7 .1) in
+    let r9 = pick-none (any (count I) (redundant-in (P .last) I)) 8 _ (r8 .1) in
     let fit = simp tests at (r5 .0) in
     let starts = or-no (any (count I) (wrong-start I)) (stray I) .0 (r7 .0) in record {
       tables = a .0;

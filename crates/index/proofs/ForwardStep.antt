@@ -1,15 +1,16 @@
 -- The forward step: one posting at a time, by doubling and halving, and as what is left of a list.
 use Prim.Native.Nat.{ℕ, zero, suc, _+_, _-_, _≤_, _<_, min}
 use native.Mathlib.Omega.{arith}
-use native.Mathlib.Numerals.{add-one}
 use mathlib.Core.Bool.{true, false}
 use mathlib.Core.List.{List, [], _∷_}
 use mathlib.Core.Path.{_≡_, refl, sym, _∙_}
-use lib.Dec.{ltb}
-use lib.ListN.{length, getD, drop, drop-of-length-le}
-use lib.Seq.{drop-cons, drop-drop}
-use borrow.Author.Tests.{lt-ltb, le-ltb}
+use lib.Dec.{leb}
+use lib.ListN.{length, getD, drop}
+use lib.Seq.{drop-drop}
+use borrow.Author.Tests.{le-leb, lt-leb}
+use Rattle.laws.specs.Front.{until}
 use Rattle.laws.proofs.Cases.{by-order, split, split₂}
+use Rattle.laws.proofs.Front.{until-here, until-next, until-end}
 use Rattle.laws.proofs.Tests.{flags}
 use Rattle.index.specs.Postings.{device}
 use Rattle.index.specs.Around.{Around}
@@ -28,17 +29,14 @@ ahead-here l p d = record { same = refl }
 module _ {l : List ℕ} {p d i : ℕ} (a : Ahead l p d i) where
   -- the posting at i is not before device d
   pub found : i < length l → d ≤ device (getD l i 0) → i ≡ forward l p d
-  unfolding before
-  found h g = sym (a .same ∙ rw (drop-cons l i 0 h, before, le-ltb _ d g) (omega arith))
+  found h g = sym (a .same ∙ rw (until-here (λ q. leb d (device q)) l i h (le-leb d _ g)) (omega arith))
 
   -- it is, and is passed
   pub passed : i < length l → device (getD l i 0) < d → Ahead l p d (i + 1)
-  unfolding before
-  passed h g = record { same = a .same ∙ rw (add-one, drop-cons l i 0 h, before, lt-ltb _ d g) (omega arith) }
+  passed h g = record { same = a .same ∙ rw (until-next (λ q. leb d (device q)) l i h (lt-leb d _ g)) (omega arith) }
 
   pub ended : length l ≤ i → length l ≡ forward l p d
-  unfolding before
-  ended h = sym (a .same ∙ rw (drop-of-length-le l {i = i} h, before) (omega arith))
+  ended h = sym (a .same ∙ rw (until-end (λ q. leb d (device q)) l i h) (omega arith))
 
 -- ---- what a forward step has passed
 
@@ -109,12 +107,12 @@ forward-passed l f d h = forward-by l d (length l - f) f (omega arith)
 -- a list without the postings before device d at its front
 unfoldable pub skip : ℕ → List ℕ → List ℕ
 skip d [] = []
-skip d (q ∷ qs) = elim (ltb (device q) d) [ true ↦ skip d qs | false ↦ q ∷ qs ]
+skip d (q ∷ qs) = elim (leb d (device q)) [ true ↦ q ∷ qs | false ↦ skip d qs ]
 
 drop-before : (d : ℕ) (l : List ℕ) → drop (before d l) l ≡ skip d l
-unfolding before skip
+unfolding until skip
 drop-before d [] = refl
-drop-before d (q ∷ qs) = split₂ (λ n m. drop n (q ∷ qs) ≡ m) (ltb (device q) d) (λ e. drop-before d qs) (λ e. refl)
+drop-before d (q ∷ qs) = split₂ (λ n m. drop n (q ∷ qs) ≡ m) (leb d (device q)) (λ e. refl) (λ e. drop-before d qs)
 
 -- r stands where a forward step from index f to device d leaves off
 pub record Left (l : List ℕ) (f d r : ℕ) : Type 0 where
@@ -139,4 +137,4 @@ pub skipped {ℓ} : {X : Type ℓ} (F G : List ℕ → X) (d : ℕ) → ((q : �
 unfolding skip
 skipped F G d pass none here [] = none
 skipped F G d pass none here (q ∷ qs) =
-    split (λ m. F (q ∷ qs) ≡ G m) (ltb (device q) d) (λ e. pass q qs (omega flags) ∙ skipped F G d pass none here qs) (λ e. here q qs (omega flags))
+    split (λ m. F (q ∷ qs) ≡ G m) (leb d (device q)) (λ e. here q qs (omega flags)) (λ e. pass q qs (omega flags) ∙ skipped F G d pass none here qs)

@@ -49,9 +49,6 @@ module _ {test : ℕ → Bool} (most : ℕ) {key : ℕ → ℕ} {l : List ℕ} {
       let z = here key l k in
       by-order 0 k (λ v. let e = h .later v in simp tests (omega arith)) (λ v. let e = h .first (omega arith) in simp tests (omega arith))
 
-  pub misplaced-high : most < key (getD l k 0) → misplaced most key l (k + 1) ≡ true
-  misplaced-high u = let z = here key l k in simp tests (omega arith)
-
   pub placed : before < key (getD l k 0) → key (getD l k 0) ≤ most → misplaced most key l (k + 1) ≡ false
   placed u v =
       let w = previous key l k in
@@ -120,20 +117,3 @@ module _ (last l : List ℕ) (n : ℕ) (sound : any (length l) (misplaced n devi
   pub shadowed-last : (e : ℕ) → any (length l) (redundant last l) ≡ false → 1 ≤ length l → device (entry l (length l)) < e
       → shadowed last l e ≡ (shared (entry l (length l)) && leb e (entry last (device (entry l (length l)))))
   shadowed-last e p a u = shadow last l n sound (length l) e (none-any _ p) (a, omega arith) u (λ i v w. absurd (omega arith))
-
-  -- the next posting of a pass that remembers the reach of the one before
-  pub redundant-next : {k before : ℕ} → Pass (redundant last l) (reach last) l k before → k < length l → (d : ℕ) → d ≡ device (getD l k 0)
-      → redundant last l (k + 1) ≡ leb d before
-  redundant-next {k} {before} h r d x =
-      let e = device (entry l (k + 1)) in
-      let first = ranged n device l sound (k + 1) (omega arith) (omega arith) in
-      let later : (i : ℕ) → k < i → i ≤ length l → e ≤ device (entry l i) =
-      λ i v w. by-order (k + 1) i (λ x. let y = rises n device l sound (k + 1) i (omega arith) x w in omega arith)
-      (λ x. let y : i ≡ k + 1 = omega arith in rw y (omega arith))
-      in
-      rw (x, ← here device l k)
-      (by-order 0 k
-      (λ v. let u = rises n device l sound k (k + 1) v (omega arith) (omega arith) in
-      shadow last l n sound k e (h .none) (v, omega arith) u later ∙ reaches last (entry l k) e u ∙ rw (h .later v))
-      (λ v. rw (h .first (omega arith), lt-leb e 0 (first .0))
-      (sym (any-none _ (λ i a b. let z = later i (omega arith) b in simp tests (λ q. absurd (omega arith)))))))

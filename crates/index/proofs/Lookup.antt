@@ -7,6 +7,7 @@ use mathlib.Core.List.{List}
 use lib.Dec.{eqb}
 use lib.ListN.{length, getD}
 use lib.Seq.{slice}
+use Rattle.laws.specs.Limits.{highest-term}
 use Rattle.laws.specs.Search.{any}
 use Rattle.index.specs.Index.{Index, count, list, is-term, list-of, misplaced-term}
 use Rattle.index.specs.Around.{Around}
@@ -31,9 +32,9 @@ module _ {terms : List ℕ} {t i : ℕ} where
     named = λ h. absurd (omega arith);
     none = λ sound _. sym (any-none _ (λ k l u. simp tests (λ p.
         by-order (k - 1) i
-        (λ v. let h = all-before (λ j m z. not-falling 65535 (λ t. t) terms sound j m) a (k - 1) (omega arith) v in omega arith)
+        (λ v. let h = all-before (λ j m z. not-falling highest-term (λ t. t) terms sound j m) a (k - 1) (omega arith) v in omega arith)
         (λ v.
-        let h = not-falling 65535 (λ t. t) terms sound i (k - 1) v (omega arith) in
+        let h = not-falling highest-term (λ t. t) terms sound i (k - 1) v (omega arith) in
         let g = a .after (omega arith) in
         differs (omega arith) (omega arith)))));
   }
@@ -44,7 +45,7 @@ only I {t} {number} n sound h =
     let p = n .named h in
     let q = any-found (is-term I t) number (h, n .within) (simp tests (omega arith)) in
     let w = lowest-is (is-term I t) (h, n .within) (simp tests (omega arith))
-    (λ k l u. simp tests (λ e. let r = rises 65535 (λ t. t) (I .terms) sound k number (omega arith) (omega arith) (n .within) in omega arith)) in
+    (λ k l u. simp tests (λ e. let r = rises highest-term (λ t. t) (I .terms) sound k number (omega arith) (omega arith) (n .within) in omega arith)) in
     rw (← q, w)
 
 module _ {I : Index} {t number : ℕ} (n : Numbered (I .terms) t number) where

@@ -1,12 +1,7 @@
 -- A search by halves in a part of a list, whose entries are compared by a key.
 use Prim.Native.Nat.{ℕ, _-_, _≤_, _<_}
 use mathlib.Core.List.{List}
-use lib.ListN.{length, getD}
-
--- indexes f up to e are a part of the list
-pub record Part (l : List ℕ) (f e : ℕ) : Type 0 where
-  pub ordered : f ≤ e
-  pub within : e ≤ length l
+use lib.ListN.{getD}
 
 -- between low and high, in f..e, the list goes from entries whose key is below d to entries whose key is not: low is f or follows one
 -- below d, high is e or one that is not

@@ -1,17 +1,16 @@
 -- The forward step on a list of postings.
-use Prim.Native.Nat.{ℕ, suc, _+_, _≤_, _<_, min}
+use Prim.Native.Nat.{ℕ, _+_, _≤_, _<_, min}
 use mathlib.Core.Path.{_≡_}
-use mathlib.Core.Bool.{true, false}
-use mathlib.Core.List.{List, [], _∷_}
-use lib.Dec.{ltb}
+use mathlib.Core.List.{List}
+use lib.Dec.{leb}
 use lib.ListN.{length, getD, drop}
+use Rattle.laws.specs.Front.{until}
 use Rattle.index.specs.Postings.{device}
 use Rattle.index.specs.Around.{Around}
 
 -- how many postings at the front stand before device d
-unfoldable pub before : ℕ → List ℕ → ℕ
-before d [] = 0
-before d (q ∷ qs) = elim (ltb (device q) d) [ true ↦ suc (before d qs) | false ↦ 0 ]
+abbrev pub before : ℕ → List ℕ → ℕ
+before d = until (λ q. leb d (device q))
 
 -- "From its place on it finds the first posting whose device is at least a given number, over any list, sorted or not. Its answer is that
 -- index, or the list's length .. A place past the end counts as the end."

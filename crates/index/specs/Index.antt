@@ -1,16 +1,24 @@
 -- The index (document 01's store): terms (its marks), where the list of each starts, and the postings; its refusals; the list of a term.
-use Prim.Native.Nat.{ℕ, _-_}
+use Prim.Native.Nat.{ℕ, _+_, _-_}
 use mathlib.Core.Bool.{Bool, cond, _&&_, _||_, not}
 use mathlib.Core.List.{List, []}
 use lib.Dec.{ltb, eqb}
 use lib.ListN.{length, getD}
 use lib.Seq.{slice}
+use Rattle.laws.specs.Limits.{highest-term}
 use Rattle.laws.specs.Rows.{pick, otherwise}
 use Rattle.laws.specs.Search.{any, lowest}
 use Rattle.laws.specs.Tables.{entry}
-use Rattle.plant.specs.Plant as plants
-use Rattle.plant.specs.Plant.{Plant, size}
+use Rattle.plant.specs.Plant.{Plant, plant-refusal}
 use Rattle.index.specs.Postings.{device, misplaced, redundant}
+
+-- "the mark numbers (1 to 65,535, strictly rising, at most 8,192)"
+abbrev pub most-terms : ℕ
+most-terms = 8_192
+
+-- "the postings (at most 1,048,576)"
+abbrev pub most-postings : ℕ
+most-postings = 1_048_576
 
 pub record Index : Type 0 where
   pub terms : List ℕ
@@ -36,13 +44,13 @@ is-term I t k = eqb (entry (I .terms) k) t
 abbrev pub list-of : Index → ℕ → List ℕ
 list-of I t = cond (any (count I) (is-term I t)) (list I (lowest (count I) (is-term I t))) []
 
--- 5: "marks and starts differ in length, or a limit passed": 8,192 terms, 1,048,576 postings
+-- 5: "marks and starts differ in length, or a limit passed"
 abbrev pub unfit : Index → Bool
-unfit I = not (eqb (length (I .starts)) (count I)) || ltb 8192 (count I) || ltb 1048576 (length (I .postings))
+unfit I = not (eqb (length (I .starts)) (count I)) || ltb most-terms (count I) || ltb most-postings (length (I .postings))
 
--- 6: "a mark out of range or not rising": the range is 1 to 65,535
+-- 6: "a mark out of range or not rising"
 abbrev pub misplaced-term : Index → ℕ → Bool
-misplaced-term I = misplaced 65535 (λ t. t) (I .terms)
+misplaced-term I = misplaced highest-term (λ t. t) (I .terms)
 
 -- 7: "first start not 0, a start that falls or passes the postings, or postings without marks"
 abbrev pub wrong-start : Index → ℕ → Bool
@@ -54,24 +62,24 @@ wrong-start I k =
 abbrev pub stray : Index → Bool
 stray I = eqb (count I) 0 && ltb 0 (length (I .postings))
 
--- 8: "a posting's device 0, above N, or not rising in its list"
-abbrev pub misplaced-in : Plant → Index → ℕ → Bool
-misplaced-in P I k = any (length (list I k)) (misplaced (size P) device (list I k))
+-- 8: "a posting's device 0, above N, or not rising in its list": of n devices, in the k-th list
+abbrev pub misplaced-in : ℕ → Index → ℕ → Bool
+misplaced-in n I k = any (length (list I k)) (misplaced n device (list I k))
 
 -- 9: "a redundant posting"
-abbrev pub redundant-in : Plant → Index → ℕ → Bool
-redundant-in P I k = any (length (list I k)) (redundant (P .last) (list I k))
+abbrev pub redundant-in : List ℕ → Index → ℕ → Bool
+redundant-in last I k = any (length (list I k)) (redundant last (list I k))
 
--- document 01's rows for the store
-abbrev pub index-refusal : Plant → Index → ℕ
-index-refusal P I =
-    pick (unfit I) 5
-    (pick (any (count I) (misplaced-term I)) 6
-    (pick (any (count I) (wrong-start I) || stray I) 7
-    (pick (any (count I) (misplaced-in P I)) 8
-    (pick (any (count I) (redundant-in P I)) 9
+-- document 01's rows for the store, numbered from `first` on: the first that applies, or 0. They read no more of a plant than `last`.
+unfoldable pub index-rows : ℕ → List ℕ → Index → ℕ
+index-rows first last I =
+    pick (unfit I) first
+    (pick (any (count I) (misplaced-term I)) (first + 1)
+    (pick (any (count I) (wrong-start I) || stray I) (first + 2)
+    (pick (any (count I) (misplaced-in (length last) I)) (first + 3)
+    (pick (any (count I) (redundant-in last I)) (first + 4)
     0))))
 
--- the rows for device tables, and then those for the store: the lowest number that applies, or 0
+-- the rows for device tables, and then those for the store, 5 to 9: the lowest number that applies, or 0
 unfoldable pub tables-refusal : Plant → Index → ℕ
-tables-refusal P I = otherwise (plants.plant-refusal P) (index-refusal P I)
+tables-refusal P I = otherwise (plant-refusal P) (index-rows 5 (P .last) I)

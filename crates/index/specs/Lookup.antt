@@ -5,6 +5,7 @@ use mathlib.Core.Bool.{false, cond}
 use mathlib.Core.List.{List, []}
 use lib.Dec.{eqb}
 use lib.ListN.{length}
+use Rattle.laws.specs.Limits.{highest-term}
 use Rattle.laws.specs.Search.{any}
 use Rattle.laws.specs.Tables.{entry}
 use Rattle.index.specs.Postings.{misplaced}
@@ -14,7 +15,7 @@ use Rattle.index.specs.Index.{Index, count, list, list-of, misplaced-ter
 pub record Numbered (terms : List ℕ) (t number : ℕ) : Type 0 where
   pub within : number ≤ length terms
   pub named : 1 ≤ number → entry terms number ≡ t
-  pub none : any (length terms) (misplaced 65535 (λ t. t) terms) ≡ false → number ≡ 0 → any (length terms) (λ k. eqb (entry terms k) t) ≡ false
+  pub none : any (length terms) (misplaced highest-term (λ t. t) terms) ≡ false → number ≡ 0 → any (length terms) (λ k. eqb (entry terms k) t) ≡ false
 
 -- r is the list of t where the terms are sound and rise. For other terms r is free, but still is empty or the list of an entry which is t.
 pub record Looked (I : Index) (t : ℕ) (r : List ℕ) : Type 0 where

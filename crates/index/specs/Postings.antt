@@ -22,12 +22,16 @@ reach last q = cond (shared q) (entry last (device q)) (device q)
 abbrev pub carries : List ℕ → ℕ → ℕ → Bool
 carries last q d = leb (device q) d && leb d (reach last q)
 
--- entry k of a list is outside 1 to most, or not above the entry before it; an entry is compared by its key
+-- "a posting's device 0, above N", "a mark out of range": the key of entry k is outside 1 to most
+abbrev pub outside : ℕ → (ℕ → ℕ) → List ℕ → ℕ → Bool
+outside most key l k = eqb (key (entry l k)) 0 || ltb most (key (entry l k))
+
+-- "or not rising": the key of entry k is not above the key of the entry before it
+abbrev pub not-rising : (ℕ → ℕ) → List ℕ → ℕ → Bool
+not-rising key l k = ltb 1 k && leb (key (entry l k)) (key (entry l (k - 1)))
+
 abbrev pub misplaced : ℕ → (ℕ → ℕ) → List ℕ → ℕ → Bool
-misplaced most key l k =
-    eqb (key (entry l k)) 0
-    || ltb most (key (entry l k))
-    || (ltb 1 k && leb (key (entry l k)) (key (entry l (k - 1))))
+misplaced most key l k = outside most key l k || not-rising key l k
 
 -- whether device e lies in the branch of a shared posting that the list has at a lower device
 abbrev pub shadowed : List ℕ → List ℕ → ℕ → Bool

@@ -4,15 +4,16 @@ ghost use Prim.Native.Nat.{_≤_};
 ghost use lib.ListN.{length};
 ghost use Rattle.index.specs.Postings.{device};
 ghost use Rattle.index.specs.Forward.{forward, Sought};
-ghost use Rattle.index.specs.Around.{Part, Around};
+ghost use Rattle.index.specs.Around.{Around};
+ghost use Rattle.index.specs.inner.Parts.{Part};
 
-// The first index from `position` on whose device is at least `device`, or the length. The list need not be sorted.
-pub fn first_at_least(list: &[u32], position: usize, device: u32) -> usize
-    ensures { λ r. ⌜ r ≡ forward (now (list .entry)) position device ⌝ }
+// The first index from `position` on whose device is at least `target`, or the length. The list need not be sorted.
+pub fn first_at_least(list: &[u32], position: usize, target: u32) -> usize
+    ensures { λ r. ⌜ r ≡ forward (now (list .entry)) position target ⌝ }
 {
     let mut i = position;
     while i < list.len() {
-        if device <= list[i] / 2 {
+        if target <= list[i] / 2 {
             return i;
         }
         i += 1;
@@ -21,16 +22,16 @@ pub fn first_at_least(list: &[u32], position: usize, device: u32) -> usize
 }
 
 // The same for a list that is sorted from `position` on, in time that grows with the logarithm of the postings passed.
-pub fn seek(list: &[u32], position: usize, device: u32) -> usize
-    ensures { λ r. ⌜ Sought (now (list .entry)) position device r ⌝ }
+pub fn seek(list: &[u32], position: usize, target: u32) -> usize
+    ensures { λ r. ⌜ Sought (now (list .entry)) position target r ⌝ }
 {
     if list.len() <= position {
         return list.len();
     }
-    let span = gallop(list, position, device);
+    let span = gallop(list, position, target);
     let low = span.low;
     let high = span.high;
-    bisect(list, low, high, device)
+    bisect(list, low, high, target)
 }
 
 struct Span {

@@ -8,3 +8,4 @@ pub use forward::first_at_least;
 pub use forward::seek;
 pub use list::list_of;
 pub use refusals::check;
+pub use refusals::rows;

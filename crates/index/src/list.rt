@@ -1,7 +1,10 @@
 // The list of a term, a part of the postings.
+use integers::least;
+use integers::u16_to_u32;
+use integers::u32_to_usize;
 ghost use mathlib.Core.Path.{_≡_};
 ghost use mathlib.Core.List.{[]};
-ghost use Prim.Native.Nat.{_≤_, min};
+ghost use Prim.Native.Nat.{_≤_};
 ghost use lib.ListN.{length, getD};
 ghost use lib.Seq.{slice};
 ghost use Rattle.index.specs.Index.{index, list};
@@ -34,7 +37,7 @@ fn number_of(terms: &[u16], term: u32) -> usize
     ensures { λ r. ⌜ Numbered (now (terms .entry)) term r ⌝ }
 {
     let i = lower_bound(terms, term);
-    if i < terms.len() && wide(terms[i]) == term {
+    if i < terms.len() && u16_to_u32(terms[i]) == term {
         return i + 1;
     }
     0
@@ -48,7 +51,7 @@ fn lower_bound(terms: &[u16], term: u32) -> usize
     let mut high = terms.len();
     while low < high {
         let mid = low + (high - low) / 2;
-        if wide(terms[mid]) < term {
+        if u16_to_u32(terms[mid]) < term {
             low = mid + 1;
         } else {
             high = mid;
@@ -57,39 +60,21 @@ fn lower_bound(terms: &[u16], term: u32) -> usize
     low
 }
 
-fn wide(x: u16) -> u32
-    ensures { λ r. ⌜ r ≡ x ⌝ }
-{
-    x as u32
-}
-
-pub fn to_index(x: u32) -> usize
-    ensures { λ r. ⌜ r ≡ x ⌝ }
-{
-    x as usize
-}
-
-fn at_most(x: usize, most: usize) -> usize
-    ensures { λ r. ⌜ r ≡ min x most ⌝ }
-{
-    if most < x { most } else { x }
-}
-
 // The start at index i, or `none` past the last one.
 pub fn start_at(starts: &[u32], i: usize, none: usize) -> usize
     ensures { λ r. ⌜ r ≡ getD (now (starts .entry)) i none ⌝ }
 {
     if i < starts.len() {
-        return to_index(starts[i]);
+        return u32_to_usize(starts[i]);
     }
     none
 }
 
-// The part of a list from `start` up to `end`, as far as the list goes.
-fn part(list: &[u32], start: usize, end: usize) -> &[u32]
-    ensures { λ r. ⌜ now r ≡ slice start end (now (list .entry)) ⌝ }
+// The part of a table from `start` up to `end`, as far as the table goes.
+fn part(table: &[u32], start: usize, end: usize) -> &[u32]
+    ensures { λ r. ⌜ now r ≡ slice start end (now (table .entry)) ⌝ }
 {
-    let to = at_most(end, list.len());
-    let from = at_most(start, to);
-    &list[from..to]
+    let to = least(end, table.len());
+    let from = least(start, to);
+    &table[from..to]
 }

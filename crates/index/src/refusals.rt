@@ -1,17 +1,20 @@
-// The check of device tables and an index: a pass for each row of the refusals. In a pass's contract `[]` stands for a table that
-// its row does not read, and the starts stand for the terms where only their number counts.
+// The check of device tables and an index. In a pass's contract `[]` stands for a table that its row does not read, and the starts stand for
+// the terms where only their number counts.
 use super::list::list_at;
 use super::list::start_at;
 use super::postings::device_of;
 use super::postings::reach_of;
+use integers::u16_to_u32;
 ghost use mathlib.Core.Path.{_≡_};
-ghost use mathlib.Core.Bool.{false, _||_};
+ghost use mathlib.Core.Bool.{_||_};
 ghost use mathlib.Core.List.{[]};
 ghost use lib.ListN.{length};
+ghost use Rattle.laws.specs.Limits.{highest-term};
 ghost use Rattle.laws.specs.Search.{any};
 ghost use Rattle.plant.specs.Plant.{plant};
-ghost use Rattle.index.specs.Postings.{device, misplaced, redundant};
-ghost use Rattle.index.specs.Index.{index, wrong-start, stray, misplaced-in, redundant-in, tables-refusal};
+ghost use Rattle.index.specs.Postings.{device, outside, not-rising, misplaced};
+ghost use Rattle.index.specs.Index.{index, wrong-start, stray, misplaced-in, index-rows, tables-refusal};
+ghost use Rattle.index.specs.inner.Lists.{faulty, faulty-in};
 
 // The lowest refusal number that applies to the device tables and the index, or 0.
 pub fn check(
@@ -22,33 +25,45 @@ pub fn check(
     starts: &[u32],
     postings: &[u32],
 ) -> u32
-    ensures { λ r. ⌜ r ≡ tables-refusal (plant (now (last .entry)) (now (root .entry)) (now (level .entry))) (index (now (terms .entry)) (now (starts .entry)) (now (postings .entry))) ⌝ }
+    ensures { λ r. ⌜ r ≡ tables-refusal
+        (plant (now (last .entry)) (now (root .entry)) (now (level .entry)))
+        (index (now (terms .entry)) (now (starts .entry)) (now (postings .entry))) ⌝ }
 {
     let refused = plant::check(last, root, level);
     if refused != 0 {
         return refused;
     }
-    if starts.len() != terms.len() || 8192 < terms.len() || 1048576 < postings.len() {
-        return 5;
+    rows(5, last, terms, starts, postings)
+}
+
+// The rows for the index alone, numbered from `first` on: the first that applies, or 0. An index that is accepted is read once; which of the two
+// rows for postings applies is asked only where there is a fault.
+pub fn rows(first: u16, last: &[u16], terms: &[u16], starts: &[u32], postings: &[u32]) -> u32
+    ensures { λ r. ⌜ r ≡ index-rows first (now (last .entry))
+        (index (now (terms .entry)) (now (starts .entry)) (now (postings .entry))) ⌝ }
+{
+    let number = u16_to_u32(first);
+    if starts.len() != terms.len() || 8_192 < terms.len() || 1_048_576 < postings.len() {
+        return number;
     }
     if any_misplaced_term(terms) {
-        return 6;
+        return number + 1;
     }
     if any_wrong_start(starts, postings) {
-        return 7;
+        return number + 2;
     }
-    if any_misplaced(last, starts, postings) {
-        return 8;
+    if !any_fault(last, starts, postings) {
+        return 0;
     }
-    if any_redundant(last, starts, postings) {
-        return 9;
+    if any_misplaced(last.len(), starts, postings) {
+        return number + 3;
     }
-    0
+    number + 4
 }
 
 // Whether a term is out of range or not above the one before it. No term is above 65,535.
 fn any_misplaced_term(terms: &[u16]) -> bool
-    ensures { λ r. ⌜ r ≡ any (length (now (terms .entry))) (misplaced 65535 (λ t. t) (now (terms .entry))) ⌝ }
+    ensures { λ r. ⌜ r ≡ any (length (now (terms .entry))) (misplaced highest-term (λ t. t) (now (terms .entry))) ⌝ }
 {
     let mut before = 0;
     let mut k = 0;
@@ -66,7 +81,8 @@ fn any_misplaced_term(terms: &[u16]) -> bool
 // Whether the starts do not go from 0 up to at most the number of postings, or there are postings and no starts. Goes from the last
 // start down.
 fn any_wrong_start(starts: &[u32], postings: &[u32]) -> bool
-    ensures { λ r. ⌜ r ≡ (any (length (now (starts .entry))) (wrong-start (index [] (now (starts .entry)) (now (postings .entry)))) || stray (index (now (starts .entry)) (now (starts .entry)) (now (postings .entry)))) ⌝ }
+    ensures { λ r. ⌜ r ≡ (any (length (now (starts .entry))) (wrong-start (index [] (now (starts .entry)) (now (postings .entry))))
+        || stray (index (now (starts .entry)) (now (starts .entry)) (now (postings .entry)))) ⌝ }
 {
     let mut next = postings.len();
     let mut k = starts.len();
@@ -81,66 +97,91 @@ fn any_wrong_start(starts: &[u32], postings: &[u32]) -> bool
     next != 0
 }
 
+// Whether a list has a posting that is misplaced or redundant: the one pass over an index that is accepted.
+fn any_fault(last: &[u16], starts: &[u32], postings: &[u32]) -> bool
+    ensures { λ r. ⌜ r ≡ any (length (now (starts .entry)))
+        (faulty-in (now (last .entry)) (index [] (now (starts .entry)) (now (postings .entry)))) ⌝ }
+{
+    let mut k = 0;
+    while k < starts.len() {
+        k += 1;
+        if fault_in(last, list_at(starts, postings, k)) {
+            return true;
+        }
+    }
+    false
+}
+
+// Whether a posting is misplaced or redundant. The first that is has no device of the plant, or one that is not above the device before it,
+// or not beyond the reach of the posting before it. `last` may be any table: a branch may end before its device.
+fn fault_in(last: &[u16], list: &[u32]) -> bool
+    ensures { λ r. ⌜ r ≡ faulty (now (last .entry)) (now (list .entry)) ⌝ }
+{
+    let mut before = 0;
+    let mut reached = 0;
+    let mut k = 0;
+    while k < list.len() {
+        let posting = list[k];
+        let d = device_of(posting);
+        if d <= before || d <= reached || last.len() < d {
+            return true;
+        }
+        before = d;
+        reached = reach_of(last, posting);
+        k += 1;
+    }
+    false
+}
+
+// Whether a list has a posting whose device is not among 1 to `most`, or does not rise.
+fn any_misplaced(most: usize, starts: &[u32], postings: &[u32]) -> bool
+    ensures { λ r. ⌜ r ≡ any (length (now (starts .entry))) (misplaced-in most (index [] (now (starts .entry)) (now (postings .entry)))) ⌝ }
+{
+    let mut k = 0;
+    while k < starts.len() {
+        k += 1;
+        if misplaced_in(most, list_at(starts, postings, k)) {
+            return true;
+        }
+    }
+    false
+}
+
 // Whether a posting's device is not among 1 to `most`, or not above the one before it.
 fn misplaced_in(most: usize, list: &[u32]) -> bool
     ensures { λ r. ⌜ r ≡ any (length (now (list .entry))) (misplaced most device (now (list .entry))) ⌝ }
 {
-    let mut before = 0;
+    if outside_in(most, list) {
+        return true;
+    }
+    unordered_in(list)
+}
+
+// Whether a posting's device is not among 1 to `most`.
+fn outside_in(most: usize, list: &[u32]) -> bool
+    ensures { λ r. ⌜ r ≡ any (length (now (list .entry))) (outside most device (now (list .entry))) ⌝ }
+{
     let mut k = 0;
     while k < list.len() {
-        let device = device_of(list[k]);
-        if device <= before || most < device {
-            return true;
-        }
-        before = device;
+        let d = device_of(list[k]);
         k += 1;
-    }
-    false
-}
-
-// Whether a list has a posting whose device is out of range or does not rise.
-fn any_misplaced(last: &[u16], starts: &[u32], postings: &[u32]) -> bool
-    ensures { λ r. ⌜ r ≡ any (length (now (starts .entry))) (misplaced-in (plant (now (last .entry)) [] []) (index [] (now (starts .entry)) (now (postings .entry)))) ⌝ }
-{
-    let mut k = 0;
-    while k < starts.len() {
-        k += 1;
-        if misplaced_in(last.len(), list_at(starts, postings, k)) {
+        if d == 0 || most < d {
             return true;
         }
     }
     false
 }
 
-// Whether a posting is redundant, where devices rise: the first that is lies in the branch of the posting just before it.
-fn redundant_in(last: &[u16], list: &[u32]) -> bool
-    requires { ⌜ any (length (now list)) (misplaced (length (now last)) device (now list)) ≡ false ⌝ }
-    ensures { λ r. ⌜ r ≡ any (length (now (list .entry))) (redundant (now (last .entry)) (now (list .entry))) ⌝ }
+// Whether a posting's device is not above the one before it.
+fn unordered_in(list: &[u32]) -> bool
+    ensures { λ r. ⌜ r ≡ any (length (now (list .entry))) (not-rising device (now (list .entry))) ⌝ }
 {
-    let mut reached = 0;
-    let mut next = 0;
-    while next < list.len() {
-        let posting = list[next];
-        if device_of(posting) <= reached {
+    let mut k = 1;
+    while k < list.len() {
+        if device_of(list[k]) <= device_of(list[k - 1]) {
             return true;
         }
-        reached = reach_of(last, posting);
-        next += 1;
-    }
-    false
-}
-
-// Whether a list has a redundant posting.
-fn any_redundant(last: &[u16], starts: &[u32], postings: &[u32]) -> bool
-    requires { ⌜ any (length (now starts)) (misplaced-in (plant (now last) [] []) (index [] (now starts) (now postings))) ≡ false ⌝ }
-    ensures { λ r. ⌜ r ≡ any (length (now (starts .entry))) (redundant-in (plant (now (last .entry)) [] []) (index [] (now (starts .entry)) (now (postings .entry)))) ⌝ }
-{
-    let mut k = 0;
-    while k < starts.len() {
         k += 1;
-        if redundant_in(last, list_at(starts, postings, k)) {
-            return true;
-        }
     }
     false
 }

@@ -5,3 +5,4 @@ pub mod Search
 pub mod Rows
 pub mod Lists
 pub mod Maps
+pub mod Front

@@ -5,6 +5,7 @@ use mathlib.Core.Bool.{false}
 use mathlib.Core.List.{List}
 use native.Mathlib.Omega.{arith}
 use lib.ListN.{length}
+use Rattle.laws.specs.Limits.{most-devices}
 use Rattle.laws.specs.Search.{any}
 use Rattle.laws.specs.Tables.{entry}
 use Rattle.plant.specs.Plant.{Plant, size, holds, out-of-range, overlap, overlaps, root-of, wrong-root, uneven, plant-refusal}
@@ -60,7 +61,7 @@ module _ (last : List ℕ) (tree d : ℕ) where
 pub record Sound (P : Plant) : Type 0 where
   pub roots : length (P .root) ≡ size P
   pub levels : length (P .level) ≡ size P
-  pub few : size P ≤ 65535
+  pub few : size P ≤ most-devices
   -- a branch holds its device, and ends in the plant
   pub own : (d : ℕ) → 1 ≤ d → d ≤ size P → d ≤ entry (P .last) d
   pub inside : (d : ℕ) → 1 ≤ d → d ≤ size P → entry (P .last) d ≤ size P

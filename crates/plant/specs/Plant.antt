@@ -4,6 +4,7 @@ use mathlib.Core.Bool.{Bool, _&&_, _||_, not}
 use mathlib.Core.List.{List}
 use lib.Dec.{leb, ltb, eqb}
 use lib.ListN.{length}
+use Rattle.laws.specs.Limits.{most-devices}
 use Rattle.laws.specs.Rows.{pick}
 use Rattle.laws.specs.Search.{any, lowest}
 use Rattle.laws.specs.Tables.{entry}
@@ -34,7 +35,7 @@ abbrev pub uneven : Plant → Bool
 uneven P =
     not (eqb (length (P .root)) (size P))
     || not (eqb (length (P .level)) (size P))
-    || ltb 65535 (size P)
+    || ltb most-devices (size P)
 
 -- 2: "a last below its device or above N"
 abbrev pub out-of-range : List ℕ → ℕ → Bool

@@ -1,17 +1,19 @@
 // Device tables that a caller lends, and their check.
+use integers::u16_to_usize;
 ghost use mathlib.Core.Path.{_≡_};
 ghost use mathlib.Core.Bool.{false};
 ghost use Prim.Native.Nat.{ℕ, _≤_, _<_};
 ghost use lib.ListN.{length};
 ghost use Rattle.laws.specs.Search.{any};
 ghost use Rattle.laws.specs.Tables.{entry};
+ghost use Rattle.laws.specs.inner.Entries.{IsEntry};
 ghost use Rattle.plant.specs.Plant.{plant, out-of-range, overlaps, wrong-root, plant-refusal};
 
 // The lowest refusal number that applies to the tables, or 0.
 pub fn check(last: &[u16], root: &[u16], level: &[u8]) -> u32
     ensures { λ r. ⌜ r ≡ plant-refusal (plant (now (last .entry)) (now (root .entry)) (now (level .entry))) ⌝ }
 {
-    if root.len() != last.len() || level.len() != last.len() || 65535 < last.len() {
+    if root.len() != last.len() || level.len() != last.len() || 65_535 < last.len() {
         return 1;
     }
     if any_out_of_range(last) {
@@ -26,18 +28,12 @@ pub fn check(last: &[u16], root: &[u16], level: &[u8]) -> u32
     0
 }
 
-fn wide(x: u16) -> usize
-    ensures { λ r. ⌜ r ≡ x ⌝ }
-{
-    x as usize
-}
-
 // The entry of device d in a table.
 fn entry_of(table: &[u16], d: usize) -> usize
-    requires { ⌜ (1 ≤ d) × (d ≤ length (now table)) ⌝ }
+    requires { ⌜ IsEntry (now table) d ⌝ }
     ensures { λ r. ⌜ r ≡ entry (now (table .entry)) d ⌝ }
 {
-    wide(table[d - 1])
+    u16_to_usize(table[d - 1])
 }
 
 // Whether a branch ends before its device or past the last device.
@@ -57,7 +53,7 @@ fn any_out_of_range(last: &[u16]) -> bool
 
 // Whether the branch of d overlaps another, where no later branch does. Goes over the children of d.
 fn overlaps_at(last: &[u16], d: usize) -> bool
-    requires { ⌜ (1 ≤ d) × (d ≤ length (now last)) ⌝ }
+    requires { ⌜ IsEntry (now last) d ⌝ }
     requires { ⌜ any (length (now last)) (out-of-range (now last)) ≡ false ⌝ }
     requires { ⌜ ((e : ℕ) → d < e → e ≤ length (now last) → overlaps (now last) e ≡ false) ⌝ }
     ensures { λ r. ⌜ r ≡ overlaps (now (last .entry)) d ⌝ }

@@ -15,14 +15,14 @@ use Rattle.laws.proofs.Search.{any-none, none-any}
 use Rattle.plant.specs.Plant as plants
 use Rattle.plant.specs.Plant.{Plant, size}
 use Rattle.index.specs.Postings.{device, shadowed}
-use Rattle.index.specs.Index.{Index, index, count, list, unfit, wrong-start, misplaced-in, redundant-in, tables-refusal}
+use Rattle.index.specs.Index.{Index, index, count, list, unfit, wrong-start, misplaced-in, redundant-in, index-rows, tables-refusal}
 use Rattle.index.specs.inner.Lists.{SoundList}
 use Rattle.index.proofs.Accepted.{Accepted, bounds}
 use Rattle.plant_text.proofs.Lists.{entry-before, entry-new, placed-more, sound-none, sound-more}
 
 -- what is accepted is refused by none of 1 to 9
 pub accepts : (P : Plant) (I : Index) → Accepted P I → tables-refusal P I ≡ 0
-unfolding tables-refusal
+unfolding tables-refusal index-rows
 accepts P I a =
     let fit : unfit I ≡ false = let x = a .even in let y = a .few-terms in let z = a .few-postings in simp tests (omega arith) in
     rw (a .tables, fit, a .terms-rise, a .starts-rise, a .none-stray, a .devices-rise, a .none-redundant)
@@ -47,14 +47,14 @@ record SoundLists (P : Plant) (I : Index) : Type 0 where
 
 lists-of : (P : Plant) (I : Index) → Accepted P I → SoundLists P I
 lists-of P I a = record {
-  each = λ k l u. record { placed = none-any (misplaced-in P I) (a .devices-rise) k l u; single = none-any (redundant-in P I) (a .none-redundant) k l u };
+  each = λ k l u. record { placed = none-any (misplaced-in (size P) I) (a .devices-rise) k l u; single = none-any (redundant-in (P .last) I) (a .none-redundant) k l u };
 }
 
 module _ (P : Plant) (I : Index) (h : SoundLists P I) where
-  lists-placed : any (count I) (misplaced-in P I) ≡ false
+  lists-placed : any (count I) (misplaced-in (size P) I) ≡ false
   lists-placed = sym (any-none _ (λ k l u. h .each k l u .placed))
 
-  lists-single : any (count I) (redundant-in P I) ≡ false
+  lists-single : any (count I) (redundant-in (P .last) I) ≡ false
   lists-single = sym (any-none _ (λ k l u. h .each k l u .single))
 
 -- row 7, start by start

@@ -3,12 +3,12 @@ use Prim.Native.Nat.{ℕ, _-_}
 use mathlib.Core.Path.{_≡_, refl}
 use mathlib.Core.List.{List, [], _∷_, _++_}
 use lib.ListN.{length, replicate}
+use Rattle.laws.specs.Front.{until}
 use Rattle.laws.specs.Search.{any, lowest}
 use Rattle.plant.specs.Plant as plants
 use Rattle.plant.specs.Plant.{Plant, plant}
 use Rattle.index.specs.Index as indexes
 use Rattle.index.specs.Index.{Index, index, list-of}
-use Rattle.index.specs.Forward.{before}
 use Rattle.steps.specs.Moves.{bring}
 use Rattle.steps.specs.Matching.{count-up, unshared, member, every, matches, matching}
 use Rattle.steps.specs.Steps.{round, run}
@@ -51,7 +51,7 @@ pub rows :
     × Row (query [] (8 ∷ []) Levels.Any most) (1 ∷ 2 ∷ 3 ∷ 4 ∷ 5 ∷ 6 ∷ []) 7 0
     × Row (query (7 ∷ []) (7 ∷ []) Levels.Any most) [] 7 3
     × Row (query [] [] (Levels.Range 0 254) most) (1 ∷ 2 ∷ 4 ∷ 5 ∷ 6 ∷ []) 7 0
-unfolding plants.plant-refusal indexes.tables-refusal common-refusal query-refusal search-refusal terms-of ended run round bring before any lowest matching every member unshared count-up
+unfolding plants.plant-refusal indexes.tables-refusal indexes.index-rows common-refusal query-refusal search-refusal terms-of ended run round bring until any lowest matching every member unshared count-up
 rows = (
   record { answers = refl; lists = refl; exact = refl },
   record { answers = refl; lists = refl; exact = refl },

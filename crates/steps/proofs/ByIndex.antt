@@ -6,7 +6,8 @@ use mathlib.Core.List.{List, [], _∷_}
 use lib.Dec.{ltb}
 use lib.ListN.{length, getD, drop}
 use lib.Seq.{drop-cons, drop-drop}
-use borrow.Author.Tests.{le-ltb}
+use borrow.Author.Tests.{le-leb}
+use Rattle.laws.specs.Front.{until}
 use Rattle.laws.specs.Tables.{entry}
 use Rattle.laws.proofs.Tests.{flags}
 use Rattle.laws.proofs.Cases.{either, split}
@@ -23,9 +24,9 @@ target last root p q =
     (cond (ltb (entry last (device q)) p) (entry last (device q) + 1) 0)
 
 before-none : (l : List ℕ) → before 0 l ≡ 0
-unfolding before
+unfolding until
 before-none [] = refl
-before-none (q ∷ qs) = rw (le-ltb (device q) 0 (omega flags), before)
+before-none (q ∷ qs) = rw (le-leb 0 (device q) (omega flags), until)
 
 module _ (last root : List ℕ) (p : ℕ) where
   skipped-target : (q : ℕ) (qs : List ℕ) → skipped last root p q qs ≡ before (target last root p q) qs

@@ -4,7 +4,7 @@ use mathlib.Core.Path.{_≡_, refl}
 use mathlib.Core.Bool.{false, true, cond}
 use mathlib.Core.List.{List, [], _∷_}
 use lib.Dec.{eqb}
-use Rattle.index.specs.Forward.{before}
+use Rattle.laws.specs.Front.{until}
 use Rattle.steps.specs.Moves.{bring}
 use Rattle.steps.specs.Steps.{round, run, steps}
 
@@ -16,5 +16,5 @@ list t = cond (eqb t 9) (9 ∷ []) (cond (eqb t 8) (4 ∷ 6 ∷ 10 ∷ []) [])
 pub passes-over : steps (6 ∷ 3 ∷ 3 ∷ 6 ∷ 5 ∷ 6 ∷ []) (1 ∷ 1 ∷ 1 ∷ 1 ∷ 1 ∷ 1 ∷ []) list
     (record { required = 9 ∷ 8 ∷ []; forbidden = []; ok = λ d. true; start = 1; end = 7 }) 4
     ≡ record { listed = 5 ∷ []; position = 7; counts = record { moves = 2; passed = 1 }; short = false }
-unfolding run round bring before
+unfolding run round bring until
 passes-over = refl

@@ -1,13 +1,22 @@
--- Lists of postings that rows 8 and 9 do not refuse. The contracts of private functions alone cite this.
+-- Lists of postings, sound or not. The contracts of private functions alone cite this.
 use mathlib.Core.Path.{_≡_}
-use mathlib.Core.Bool.{false}
+use mathlib.Core.Bool.{Bool, false, _||_}
 use mathlib.Core.List.{List}
 use Prim.Native.Nat.{ℕ}
 use lib.ListN.{length}
 use Rattle.laws.specs.Search.{any}
+use Rattle.index.specs.Index.{Index, list}
 use Rattle.index.specs.Postings.{device, misplaced, redundant}
 
 -- a sound list, over a plant's table of last devices
 pub record SoundList (last l : List ℕ) : Type 0 where
   pub placed : any (length l) (misplaced (length last) device l) ≡ false
   pub single : any (length l) (redundant last l) ≡ false
+
+-- whether a list is not sound
+abbrev pub faulty : List ℕ → List ℕ → Bool
+faulty last l = any (length l) (misplaced (length last) device l) || any (length l) (redundant last l)
+
+-- whether the k-th list of an index is not sound
+abbrev pub faulty-in : List ℕ → Index → ℕ → Bool
+faulty-in last I k = faulty last (list I k)

@@ -19,7 +19,7 @@ loop-holds : tie.Need-loop-holds Inv-loop μ-loop
 loop-holds c = (omega arith, none-yet _ _)
 
 overlaps-at-requires : tie.Need-overlaps-at-requires Inv-loop μ-loop
-overlaps-at-requires c κs = (omega arith, (c .before .before .before .pre, c .before .loop .inv .1))
+overlaps-at-requires c κs = (record { first = omega arith; last = omega arith }, (c .before .before .before .pre, c .before .loop .inv .1))
 
 returns : tie.Need-returns Inv-loop μ-loop
 returns c = any-found _ (c .before .before .before .loop .d) (omega arith) (sym (c .before .overlaps-at .ensures) ∙ c .if1 .taken)

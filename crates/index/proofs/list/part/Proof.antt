@@ -8,7 +8,7 @@ use Rattle.index.proofs.list.part.Tie as tie
 returns : tie.Need-returns
 returns c =
     let s = c .before .before .before .before .args in
-    slice-part (s .start) (s .end) (now (s .list)) (c .before .before .at-most .ensures) (c .before .at-most2 .ensures)
+    slice-part (s .start) (s .end) (now (s .table)) (c .before .before .least .ensures) (c .before .least2 .ensures)
 
 pub part-spec : {M : Type 1} → statement M
 part-spec =

@@ -11,7 +11,7 @@ use Rattle.index.proofs.list.start_at.Tie as tie
 returns : tie.Need-returns
 returns c =
     let s = c .before .before .before .before .args in
-    c .to-index .ensures ∙ getD-within (now (s .starts)) (s .i) 0 (s .none) (omega arith)
+    c .u32-to-usize .ensures ∙ getD-within (now (s .starts)) (s .i) 0 (s .none) (omega arith)
 
 returns-2 : tie.Need-returns-2
 returns-2 c = let s = c .before .before .args in sym (List·getD-eq-default (now (s .starts)) (s .none) {n = s .i} (omega arith))

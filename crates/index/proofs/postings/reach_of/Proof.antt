@@ -9,7 +9,7 @@ use Rattle.index.proofs.postings.reach_of.Tie as tie
 returns : tie.Need-returns
 returns c =
     let d = c .before .before .before in
-    c .before .wide .ensures ∙ reach-shared (now (d .before .before .args .last)) _ _ (c .if1 .taken) (d .device-of .ensures)
+    c .before .u16-to-usize .ensures ∙ reach-shared (now (d .before .before .args .last)) _ _ (c .if1 .taken) (d .device-of .ensures)
 
 returns-2 : tie.Need-returns-2
 returns-2 c =

@@ -10,10 +10,10 @@ use Rattle.index.proofs.refusals.any_misplaced.Statement.{statement}
 use Rattle.index.proofs.refusals.any_misplaced.Tie as tie
 
 abbrev Inv-loop : tie.InvT-loop
-Inv-loop last starts postings k₀ k = Over (λ l. any (length l) (misplaced (length last) device l)) starts postings k
+Inv-loop most starts postings k₀ k = Over (λ l. any (length l) (misplaced most device l)) starts postings k
 
 abbrev μ-loop : tie.MeasureT-loop
-μ-loop last starts postings k₀ k = length starts - k
+μ-loop most starts postings k₀ k = length starts - k
 
 pub any-misplaced-spec : {M : Type 1} → statement M
 any-misplaced-spec =

@@ -1,41 +1,14 @@
--- `index::refusals::misplaced_in` meets its contract: no posting so far is misplaced, and `before` is the device of the last of them.
-use Prim.Native.Nat.{_-_}
+-- `index::refusals::misplaced_in` meets its contract: a device is out of range, or does not rise.
 use borrow.Author.Needs.{needs}
-use native.Mathlib.Omega.{arith}
-use lib.ListN.{length}
-use Rattle.index.specs.Postings.{device, misplaced}
-use Rattle.laws.proofs.Tests.{flags}
-use Rattle.laws.proofs.Cases.{cases}
-use Rattle.index.proofs.Lists.{Pass, pass-start, pass-found, pass-turn, pass-end, misplaced-low, misplaced-high, placed}
+use Rattle.index.proofs.Faults.{first-found, second-tells}
 use Rattle.index.proofs.refusals.misplaced_in.Statement.{statement}
 use Rattle.index.proofs.refusals.misplaced_in.Tie as tie
 
-abbrev Inv-loop : tie.InvT-loop
-Inv-loop most list before₀ k₀ before k = Pass (misplaced most device list) device list k before
+returns : tie.Need-returns
+returns c = first-found _ _ _ (c .before .outside-in .ensures) (c .if1 .taken)
 
-abbrev μ-loop : tie.MeasureT-loop
-μ-loop most list before₀ k₀ before k = length list - k
-
-returns : tie.Need-returns Inv-loop μ-loop
-returns c =
-    let h = c .before .before .before .before .loop .inv in
-    pass-found h (omega arith) (cases (c .if1 .came) (λ w. misplaced-low _ h (omega flags)) (λ w. misplaced-high _ h (omega flags)))
-
-loop-again : tie.Need-loop-again Inv-loop μ-loop
-loop-again c =
-    let h = c .before .before .before .before .before .loop .inv in
-    pass-turn h _ (omega arith) (c .before .before .device-of .ensures) (placed _ h (omega flags) (omega flags))
+returns-2 : tie.Need-returns-2
+returns-2 c = second-tells _ _ _ (c .before .before .outside-in .ensures) (c .unordered-in .ensures) (c .before .if1 .left)
 
 pub misplaced-in-spec : {M : Type 1} → statement M
-misplaced-in-spec =
-    tie.close
-    (tie.spec Inv-loop μ-loop
-    (λ c. pass-start _ _ _)
-    (λ c. search needs)
-    (λ c. search needs)
-    (λ c κs. search needs)
-    returns
-    (λ c. search needs)
-    (λ c. search needs)
-    loop-again
-    (λ c. pass-end (c .before .loop .inv) (omega arith)))
+misplaced-in-spec = tie.close (tie.spec (λ c κs. search needs) returns (λ c κs. search needs) returns-2)
