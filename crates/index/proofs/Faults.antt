@@ -1,7 +1,7 @@
 -- Lists with a fault: the one pass that tells them from sound ones, and which of the two rows for postings a fault comes to.
-use Prim.Native.Nat.{ℕ, zero, suc, _+_, _-_, _≤_, _<_}
+use Prim.Native.Nat.{ℕ, _+_, _-_, _≤_, _<_}
 use mathlib.Core.Path.{_≡_, refl, sym, _∙_}
-use mathlib.Core.Bool.{Bool, true, false, _||_, _&&_}
+use mathlib.Core.Bool.{true, false, _&&_}
 use mathlib.Core.List.{List}
 use native.Mathlib.Omega.{arith}
 use borrow.Author.Tests.{le-leb}
@@ -15,37 +15,6 @@ use Rattle.laws.proofs.Tests.{tests, or-yes, or-no}
 use Rattle.laws.proofs.Cases.{by-order, either}
 use Rattle.laws.proofs.Search.{any-found, any-none}
 use Rattle.index.proofs.Lists.{here, previous, reaches}
-
--- ---- two tests as one
-
-regroup : (a b c d : Bool) → ((a || b) || (c || d)) ≡ ((a || c) || (b || d))
-regroup true b c d = refl
-regroup false true true d = refl
-regroup false true false d = refl
-regroup false false c d = refl
-
-any-or : (f g : ℕ → Bool) (n : ℕ) → any n (λ k. f k || g k) ≡ (any n f || any n g)
-unfolding any
-any-or f g zero = refl
-any-or f g (suc n) = rw (any-or f g n) (regroup (any n f) (any n g) (f (suc n)) (g (suc n)))
-
--- a search for the first test, and, where it finds nothing, one for the second
-module _ (f g : ℕ → Bool) (n : ℕ) {b : Bool} (e : b ≡ any n f) where
-  pub first-found : b ≡ true → true ≡ any n (λ k. f k || g k)
-  first-found p = rw (any-or f g n, sym e ∙ p)
-
-  pub second-tells : {c : Bool} → c ≡ any n g → b ≡ false → c ≡ any n (λ k. f k || g k)
-  second-tells q p = q ∙ rw (any-or f g n, sym e ∙ p)
-
--- what a search for either has shown
-module _ (f g : ℕ → Bool) (n : ℕ) {b : Bool} (e : b ≡ any n (λ k. f k || g k)) where
-  pub neither : b ≡ false → (any n f ≡ false) × (any n g ≡ false)
-  neither p = or-no (any n f) (any n g) .0 (sym (any-or f g n) ∙ sym e ∙ p)
-
-  pub second-found : b ≡ true → any n f ≡ false → any n g ≡ true
-  second-found p = or-yes (any n f) (any n g) .0 (sym (any-or f g n) ∙ sym e ∙ p)
-
--- ---- one list
 
 -- the devices of the first k postings are in range, and each is above those before it and beyond their reach; `before` and `reached` are the
 -- device and the reach of the k-th

@@ -1,10 +1,10 @@
 -- Searches: `any` and `lowest` of specs/Search.antt, and what a loop that searches has shown.
 use Prim.Native.Nat.{ℕ, zero, suc, _+_, _-_, _≤_, _<_}
 use mathlib.Core.Path.{_≡_, refl, sym, _∙_}
-use mathlib.Core.Bool.{Bool, true, false, true≢false}
+use mathlib.Core.Bool.{Bool, true, false, _||_, true≢false}
 use native.Mathlib.Omega.{arith}
 use Rattle.laws.specs.Search.{any, lowest}
-use Rattle.laws.proofs.Tests.{or-yes, refuted}
+use Rattle.laws.proofs.Tests.{or-yes, or-no, refuted}
 use Rattle.laws.proofs.Cases.{by-order, either}
 
 -- no number after a, up to b, passes the test: what a search has shown so far
@@ -65,3 +65,32 @@ module _ (f : ℕ → Bool) where
         passes = or-yes (any n f) _ .0 p e;
         least = λ d l u. none-any {n = n} e d (omega arith) (omega arith);
       }))
+
+-- ---- two tests as one
+
+regroup : (a b c d : Bool) → ((a || b) || (c || d)) ≡ ((a || c) || (b || d))
+regroup true b c d = refl
+regroup false true true d = refl
+regroup false true false d = refl
+regroup false false c d = refl
+
+any-or : (f g : ℕ → Bool) (n : ℕ) → any n (λ k. f k || g k) ≡ (any n f || any n g)
+unfolding any
+any-or f g zero = refl
+any-or f g (suc n) = rw (any-or f g n) (regroup (any n f) (any n g) (f (suc n)) (g (suc n)))
+
+-- a search for the first test, and, where it finds nothing, one for the second
+module _ (f g : ℕ → Bool) (n : ℕ) {b : Bool} (e : b ≡ any n f) where
+  pub first-found : b ≡ true → true ≡ any n (λ k. f k || g k)
+  first-found p = rw (any-or f g n, sym e ∙ p)
+
+  pub second-tells : {c : Bool} → c ≡ any n g → b ≡ false → c ≡ any n (λ k. f k || g k)
+  second-tells q p = q ∙ rw (any-or f g n, sym e ∙ p)
+
+-- what a search for either has shown
+module _ (f g : ℕ → Bool) (n : ℕ) {b : Bool} (e : b ≡ any n (λ k. f k || g k)) where
+  pub neither : b ≡ false → (any n f ≡ false) × (any n g ≡ false)
+  neither p = or-no (any n f) (any n g) .0 (sym (any-or f g n) ∙ sym e ∙ p)
+
+  pub second-found : b ≡ true → any n f ≡ false → any n g ≡ true
+  second-found p = or-yes (any n f) (any n g) .0 (sym (any-or f g n) ∙ sym e ∙ p)

@@ -15,10 +15,13 @@ use Rattle.laws.proofs.Search.{none-any, any-found, lowest-is, Lowest, lowest-o
 use Rattle.laws.proofs.Rows.{pick-none}
 
 module _ (last : List ℕ) where
+  pub in-range-at : (d : ℕ) → out-of-range last d ≡ false → (d ≤ entry last d) × (entry last d ≤ length last)
+  in-range-at d p = let h = simp tests at p in omega arith
+
   -- a branch ends at its device or later, and not past the last device
   pub in-range : any (length last) (out-of-range last) ≡ false → (d : ℕ) → (1 ≤ d) × (d ≤ length last)
       → (d ≤ entry last d) × (entry last d ≤ length last)
-  in-range p d l = let h = simp tests at (none-any _ p d (l .0) (l .1)) in omega arith
+  in-range p d l = in-range-at d (none-any _ p d (l .0) (l .1))
 
   -- the branch of a device of d's branch ends within d's branch
   pub nested : (d e : ℕ) → overlaps last d ≡ false → (1 ≤ d) × (d ≤ e) × (e ≤ entry last d) × (e ≤ length last) → entry last e ≤ entry last d

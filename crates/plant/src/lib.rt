@@ -2,11 +2,14 @@
 use integers::u16_to_usize;
 ghost use mathlib.Core.Path.{_≡_};
 ghost use mathlib.Core.Bool.{false};
-ghost use Prim.Native.Nat.{ℕ, _≤_, _<_};
+ghost use Prim.Native.Nat.{_<_};
 ghost use lib.ListN.{length};
+ghost use Rattle.laws.specs.Rows.{pick};
 ghost use Rattle.laws.specs.Search.{any};
 ghost use Rattle.laws.specs.Tables.{entry};
 ghost use Rattle.laws.specs.inner.Entries.{IsEntry};
+ghost use Rattle.laws.proofs.Search.{None};
+ghost use Rattle.plant.specs.inner.Branches.{faulty};
 ghost use Rattle.plant.specs.Plant.{plant, out-of-range, overlaps, wrong-root, plant-refusal};
 
 // The lowest refusal number that applies to the tables, or 0.
@@ -16,11 +19,8 @@ pub fn check(last: &[u16], root: &[u16], level: &[u8]) -> u32
     if root.len() != last.len() || level.len() != last.len() || 65_535 < last.len() {
         return 1;
     }
-    if any_out_of_range(last) {
-        return 2;
-    }
-    if any_overlap(last) {
-        return 3;
+    if any_fault(last) {
+        return fault_number(last);
     }
     if any_wrong_root(last, root) {
         return 4;
@@ -51,14 +51,16 @@ fn any_out_of_range(last: &[u16]) -> bool
     false
 }
 
-// Whether the branch of d overlaps another, where no later branch does. Goes over the children of d.
-fn overlaps_at(last: &[u16], d: usize) -> bool
+// Whether the branch of d is out of range or overlaps another, where no later branch is or does. Goes over the children of d.
+fn faulty_at(last: &[u16], d: usize) -> bool
     requires { ⌜ IsEntry (now last) d ⌝ }
-    requires { ⌜ any (length (now last)) (out-of-range (now last)) ≡ false ⌝ }
-    requires { ⌜ ((e : ℕ) → d < e → e ≤ length (now last) → overlaps (now last) e ≡ false) ⌝ }
-    ensures { λ r. ⌜ r ≡ overlaps (now (last .entry)) d ⌝ }
+    requires { ⌜ None (faulty (now last)) d (length (now last)) ⌝ }
+    ensures { λ r. ⌜ r ≡ faulty (now (last .entry)) d ⌝ }
 {
     let end = entry_of(last, d);
+    if end < d || last.len() < end {
+        return true;
+    }
     let mut child = d + 1;
     while child <= end {
         let child_end = entry_of(last, child);
@@ -70,19 +72,25 @@ fn overlaps_at(last: &[u16], d: usize) -> bool
     false
 }
 
-// Whether two branches overlap and neither holds the other. Goes from the last device down.
-fn any_overlap(last: &[u16]) -> bool
-    requires { ⌜ any (length (now last)) (out-of-range (now last)) ≡ false ⌝ }
-    ensures { λ r. ⌜ r ≡ any (length (now (last .entry))) (overlaps (now (last .entry))) ⌝ }
+// Whether a branch is out of range or overlaps another: the one pass over branches that are accepted. Goes from the last device down.
+fn any_fault(last: &[u16]) -> bool
+    ensures { λ r. ⌜ r ≡ any (length (now (last .entry))) (faulty (now (last .entry))) ⌝ }
 {
     let mut d = last.len();
     while 0 < d {
-        if overlaps_at(last, d) {
+        if faulty_at(last, d) {
             return true;
         }
         d -= 1;
     }
     false
+}
+
+// Which row a fault comes to.
+fn fault_number(last: &[u16]) -> u32
+    ensures { λ r. ⌜ r ≡ pick (any (length (now (last .entry))) (out-of-range (now (last .entry)))) 2 3 ⌝ }
+{
+    if any_out_of_range(last) { 2 } else { 3 }
 }
 
 // Whether a device's root is not the lowest device whose branch holds it. Keeps the root of the current tree.

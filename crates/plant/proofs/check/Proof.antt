@@ -1,11 +1,16 @@
 -- `plant::check` meets its contract: each return is the first refusal that applies.
 use mathlib.Core.Path.{_≡_, sym, _∙_}
-use mathlib.Core.Bool.{true, false}
+use Prim.Native.Nat.{ℕ}
+use mathlib.Core.Bool.{Bool, true, false}
 use denote.Ref.{now}
 use borrow.Author.Needs.{needs}
-use Rattle.plant.specs.Plant.{Plant, uneven, plant-refusal}
+use Rattle.laws.specs.Rows.{pick}
+use Rattle.laws.specs.Search.{any}
+use Rattle.plant.specs.Plant.{Plant, size, uneven, out-of-range, overlaps, plant-refusal}
+use Rattle.plant.specs.inner.Branches.{faulty}
 use Rattle.laws.proofs.Tests.{tests, flags}
-use Rattle.laws.proofs.Cases.{cases}
+use Rattle.laws.proofs.Cases.{cases, either}
+use Rattle.laws.proofs.Search.{neither, second-found}
 use Rattle.plant.proofs.check.Statement.{statement}
 use Rattle.plant.proofs.check.Tie as tie
 
@@ -27,38 +32,41 @@ tables c =
 even : (c : tie.Else3) → uneven (tables c) ≡ false
 even c = simp tests (omega flags)
 
-returns-2 : tie.Need-returns-2
-unfolding plant-refusal
-returns-2 c = rw (even (c .before .before), sym (c .before .any-out-of-range .ensures) ∙ c .if4 .taken)
+-- a fault is row 2, or else row 3
+module _ (P : Plant) (e : uneven P ≡ false) {b : Bool} (f : b ≡ any (size P) (faulty (P .last))) where
+  fault-told : {r : ℕ} → b ≡ true → r ≡ pick (any (size P) (out-of-range (P .last))) 2 3 → r ≡ plant-refusal P
+  unfolding plant-refusal
+  fault-told t q = either (any (size P) (out-of-range (P .last)))
+      (λ o. q ∙ rw (e, o))
+      (λ o. q ∙ rw (e, o, second-found (out-of-range (P .last)) (overlaps (P .last)) (size P) f t o))
 
-any-overlap-requires : tie.Need-any-overlap-requires
-any-overlap-requires c κs = sym (c .before .any-out-of-range .ensures) ∙ c .if4 .left
+  no-fault : b ≡ false → (any (size P) (out-of-range (P .last)) ≡ false) × (any (size P) (overlaps (P .last)) ≡ false)
+  no-fault = neither (out-of-range (P .last)) (overlaps (P .last)) (size P) f
+
+returns-2 : tie.Need-returns-2
+returns-2 c =
+    let d = c .before .before in
+    fault-told (tables (d .before)) (even (d .before)) (d .any-fault .ensures) (c .before .if4 .taken) (c .fault-number .ensures)
+
+-- past the pass over the branches
+branches : (c : tie.Else4) → let P = tables (c .before .before) in (any (size P) (out-of-range (P .last)) ≡ false) × (any (size P) (overlaps (P .last)) ≡ false)
+branches c = no-fault (tables (c .before .before)) (even (c .before .before)) (c .before .any-fault .ensures) (c .if4 .left)
 
 returns-3 : tie.Need-returns-3
 unfolding plant-refusal
 returns-3 c =
     let d = c .before .before in
-    rw (even (d .before .before), any-overlap-requires d (c .before .any-overlap .lifetimes), sym (c .before .any-overlap .ensures) ∙ c .if5 .taken)
-
-any-wrong-root-requires : tie.Need-any-wrong-root-requires
-any-wrong-root-requires c κs =
-    (omega flags, (any-overlap-requires (c .before .before) (c .before .any-overlap .lifetimes), sym (c .before .any-overlap .ensures) ∙ c .if5 .left))
+    let f = branches d in
+    rw (even (d .before .before), f .0, f .1, sym (c .before .any-wrong-root .ensures) ∙ c .if5 .taken)
 
 returns-4 : tie.Need-returns-4
 unfolding plant-refusal
 returns-4 c =
     let d = c .before .before in
-    let r = any-wrong-root-requires d (c .before .any-wrong-root .lifetimes) in
-    rw (even (d .before .before .before .before), r .1 .0, r .1 .1, sym (c .before .any-wrong-root .ensures) ∙ c .if6 .taken)
-
-returns-5 : tie.Need-returns-5
-unfolding plant-refusal
-returns-5 c =
-    let d = c .before .before in
-    let r = any-wrong-root-requires d (c .before .any-wrong-root .lifetimes) in
-    rw (even (d .before .before .before .before), r .1 .0, r .1 .1, sym (c .before .any-wrong-root .ensures) ∙ c .if6 .left)
+    let f = branches d in
+    rw (even (d .before .before), f .0, f .1, sym (c .before .any-wrong-root .ensures) ∙ c .if5 .left)
 
 pub check-spec : {M : Type 1} → statement M
 check-spec =
     tie.close
-    (tie.spec returns (λ c κs. search needs) returns-2 any-overlap-requires returns-3 any-wrong-root-requires returns-4 returns-5)
+    (tie.spec returns (λ c κs. search needs) (λ c κs. search needs) returns-2 (λ c κs. (omega flags, branches c)) returns-3 returns-4)

@@ -1,6 +1,6 @@
 -- `index::refusals::misplaced_in` meets its contract: a device is out of range, or does not rise.
 use borrow.Author.Needs.{needs}
-use Rattle.index.proofs.Faults.{first-found, second-tells}
+use Rattle.laws.proofs.Search.{first-found, second-tells}
 use Rattle.index.proofs.refusals.misplaced_in.Statement.{statement}
 use Rattle.index.proofs.refusals.misplaced_in.Tie as tie
 

@@ -11,7 +11,7 @@ use Rattle.laws.specs.Search.{any}
 use Rattle.index.specs.Index.{Index, index, count, unfit, misplaced-term, wrong-start, stray, misplaced-in, redundant-in, index-rows}
 use Rattle.laws.proofs.Tests.{tests, flags}
 use Rattle.laws.proofs.Cases.{cases}
-use Rattle.index.proofs.Faults.{neither, second-found}
+use Rattle.laws.proofs.Search.{neither, second-found}
 use Rattle.index.proofs.refusals.rows.Statement.{statement}
 use Rattle.index.proofs.refusals.rows.Tie as tie
 
