@@ -1,7 +1,7 @@
 -- Lists with a fault: the one pass that tells them from sound ones, and which of the two rows for postings a fault comes to.
 use Prim.Native.Nat.{ℕ, _+_, _-_, _≤_, _<_}
 use mathlib.Core.Path.{_≡_, refl, sym, _∙_}
-use mathlib.Core.Bool.{true, false, _&&_}
+use mathlib.Core.Bool.{Bool, true, false, _||_, _&&_, not}
 use mathlib.Core.List.{List}
 use native.Mathlib.Omega.{arith}
 use borrow.Author.Tests.{le-leb}
@@ -10,9 +10,9 @@ use lib.ListN.{length, getD}
 use Rattle.laws.specs.Search.{any}
 use Rattle.laws.specs.Tables.{entry}
 use Rattle.index.specs.Postings.{device, shared, reach, misplaced, redundant}
-use Rattle.index.specs.inner.Lists.{faulty}
-use Rattle.laws.proofs.Tests.{tests, or-yes, or-no}
-use Rattle.laws.proofs.Cases.{by-order, either}
+use Rattle.index.specs.inner.Lists.{Held, faulty}
+use Rattle.laws.proofs.Tests.{tests, flags, and-yes, or-yes, or-no}
+use Rattle.laws.proofs.Cases.{by-order, either, split-cond}
 use Rattle.laws.proofs.Search.{any-found, any-none}
 use Rattle.index.proofs.Lists.{here, previous, reaches}
 
@@ -71,6 +71,30 @@ module _ {last l : List ℕ} {k before reached : ℕ} (h : Clear last l k before
       redundant-found u (sym (any-found _ k (omega arith) (simp tests (omega arith)))))
       (λ b. let e = h .first (omega arith) in absurd (omega arith)))
       (clear-low u)
+
+  -- one of the three, by what the code tests
+  pub clear-fault : {d : ℕ} (checked : Bool) → k < length l → d ≡ device (getD l k 0)
+      → (leb d reached || ltb (length last) d || (not checked && leb d before)) ≡ true → true ≡ faulty last l
+  clear-fault {d} checked u e p =
+      either (leb d reached) (λ a. clear-near u (omega flags))
+      (λ a. either (ltb (length last) d) (λ b. clear-high u (omega flags))
+      (λ b. let t = and-yes (not checked) (leb d before) .0 (rw (a, b) at p) in clear-low u (omega (flags, t .1))))
+
+  -- none: where branches hold their devices, what was reached is not below the device before
+  before-reached : Held last → before ≤ reached
+  before-reached o =
+      by-order 0 k
+      (λ v. let e = h .later v in
+      let r = h .ranged k v (omega arith) in
+      let w = o .held (device (entry l k)) (record { first = r .0; last = r .1 }) in
+      let z : device (entry l k) ≤ reach last (entry l k) = split-cond (λ n. device (entry l k) ≤ n) (shared (entry l k)) (λ _. w) (λ _. omega arith) in
+      omega arith)
+      (λ v. let e = h .first (omega arith) in omega arith)
+
+  pub clear-beyond : {d : ℕ} (checked : Bool) → (checked ≡ true → Held last)
+      → (leb d reached || ltb (length last) d || (not checked && leb d before)) ≡ false → (before < d) × (reached < d) × (d ≤ length last)
+  clear-beyond true o p = let t = simp tests at p in let b = before-reached (o refl) in omega flags
+  clear-beyond false o p = let t = simp tests at p in omega flags
 
   -- it is beyond both
   pub clear-turn : {x y : ℕ} → k < length l → (before < device (getD l k 0)) × (reached < device (getD l k 0)) × (device (getD l k 0) ≤ length last)

@@ -6,7 +6,8 @@ use super::postings::device_of;
 use super::postings::reach_of;
 use integers::u16_to_u32;
 ghost use mathlib.Core.Path.{_≡_};
-ghost use mathlib.Core.Bool.{_||_};
+ghost use mathlib.Core.Bool.{true, _||_, _&&_, not};
+ghost use lib.Dec.{leb, ltb};
 ghost use mathlib.Core.List.{[]};
 ghost use lib.ListN.{length};
 ghost use Rattle.laws.specs.Limits.{highest-term};
@@ -14,7 +15,7 @@ ghost use Rattle.laws.specs.Search.{any};
 ghost use Rattle.plant.specs.Plant.{plant};
 ghost use Rattle.index.specs.Postings.{device, outside, not-rising, misplaced};
 ghost use Rattle.index.specs.Index.{index, wrong-start, stray, misplaced-in, index-rows, tables-refusal};
-ghost use Rattle.index.specs.inner.Lists.{faulty, faulty-in};
+ghost use Rattle.index.specs.inner.Lists.{Held, faulty, faulty-in};
 
 // The lowest refusal number that applies to the device tables and the index, or 0.
 pub fn check(
@@ -33,12 +34,27 @@ pub fn check(
     if refused != 0 {
         return refused;
     }
-    rows(5, last, terms, starts, postings)
+    rows_over(last, true, 5, terms, starts, postings)
 }
 
-// The rows for the index alone, numbered from `first` on: the first that applies, or 0. An index that is accepted is read once; which of the two
-// rows for postings applies is asked only where there is a fault.
+// The rows for the index alone, numbered from `first` on: the first that applies, or 0. Of an index that is accepted each posting is read once.
 pub fn rows(first: u16, last: &[u16], terms: &[u16], starts: &[u32], postings: &[u32]) -> u32
+    ensures { λ r. ⌜ r ≡ index-rows first (now (last .entry))
+        (index (now (terms .entry)) (now (starts .entry)) (now (postings .entry))) ⌝ }
+{
+    rows_over(last, false, first, terms, starts, postings)
+}
+
+// The same over a table that may be known as checked: then each branch holds its device.
+fn rows_over(
+    last: &[u16],
+    checked: bool,
+    first: u16,
+    terms: &[u16],
+    starts: &[u32],
+    postings: &[u32],
+) -> u32
+    requires { ⌜ (checked ≡ true → Held (now last)) ⌝ }
     ensures { λ r. ⌜ r ≡ index-rows first (now (last .entry))
         (index (now (terms .entry)) (now (starts .entry)) (now (postings .entry))) ⌝ }
 {
@@ -52,7 +68,7 @@ pub fn rows(first: u16, last: &[u16], terms: &[u16], starts: &[u32], postings: &
     if any_wrong_start(starts, postings) {
         return number + 2;
     }
-    if !any_fault(last, starts, postings) {
+    if !any_fault(last, checked, starts, postings) {
         return 0;
     }
     if any_misplaced(last.len(), starts, postings) {
@@ -98,23 +114,39 @@ fn any_wrong_start(starts: &[u32], postings: &[u32]) -> bool
 }
 
 // Whether a list has a posting that is misplaced or redundant: the one pass over an index that is accepted.
-fn any_fault(last: &[u16], starts: &[u32], postings: &[u32]) -> bool
+fn any_fault(last: &[u16], checked: bool, starts: &[u32], postings: &[u32]) -> bool
+    requires { ⌜ (checked ≡ true → Held (now last)) ⌝ }
     ensures { λ r. ⌜ r ≡ any (length (now (starts .entry)))
         (faulty-in (now (last .entry)) (index [] (now (starts .entry)) (now (postings .entry)))) ⌝ }
 {
     let mut k = 0;
     while k < starts.len() {
         k += 1;
-        if fault_in(last, list_at(starts, postings, k)) {
+        if fault_in(last, checked, list_at(starts, postings, k)) {
             return true;
         }
     }
     false
 }
 
-// Whether a posting is misplaced or redundant. The first that is has no device of the plant, or one that is not above the device before it,
-// or not beyond the reach of the posting before it. `last` may be any table: a branch may end before its device.
-fn fault_in(last: &[u16], list: &[u32]) -> bool
+// Whether device d of a posting is at fault: within what was reached before it, above `most`, or, where branches may end before their devices,
+// not above the device before it.
+fn at_fault(d: usize, most: usize, before: usize, reached: usize, checked: bool) -> bool
+    ensures { λ r. ⌜ r ≡ (leb d reached || ltb most d || (not checked && leb d before)) ⌝ }
+{
+    if d <= reached || most < d {
+        return true;
+    }
+    if checked {
+        return false;
+    }
+    d <= before
+}
+
+// Whether a posting of a list is misplaced or redundant. Where branches hold their devices, what a posting reaches is never below its own
+// device: one comparison serves both.
+fn fault_in(last: &[u16], checked: bool, list: &[u32]) -> bool
+    requires { ⌜ (checked ≡ true → Held (now last)) ⌝ }
     ensures { λ r. ⌜ r ≡ faulty (now (last .entry)) (now (list .entry)) ⌝ }
 {
     let mut before = 0;
@@ -123,7 +155,7 @@ fn fault_in(last: &[u16], list: &[u32]) -> bool
     while k < list.len() {
         let posting = list[k];
         let d = device_of(posting);
-        if d <= before || d <= reached || last.len() < d {
+        if at_fault(d, last.len(), before, reached, checked) {
             return true;
         }
         before = d;

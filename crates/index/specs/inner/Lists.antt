@@ -2,9 +2,11 @@
 use mathlib.Core.Path.{_≡_}
 use mathlib.Core.Bool.{Bool, false, _||_}
 use mathlib.Core.List.{List}
-use Prim.Native.Nat.{ℕ}
+use Prim.Native.Nat.{ℕ, _≤_}
 use lib.ListN.{length}
 use Rattle.laws.specs.Search.{any}
+use Rattle.laws.specs.Tables.{entry}
+use Rattle.laws.specs.inner.Entries.{IsEntry}
 use Rattle.index.specs.Index.{Index, list}
 use Rattle.index.specs.Postings.{device, misplaced, redundant}
 
@@ -20,3 +22,7 @@ faulty last l = any (length l) (misplaced (length last) device l) || any (length
 -- whether the k-th list of an index is not sound
 abbrev pub faulty-in : List ℕ → Index → ℕ → Bool
 faulty-in last I k = faulty last (list I k)
+
+-- each branch holds its device, as in device tables that are accepted
+pub record Held (last : List ℕ) : Type 0 where
+  pub held : (d : ℕ) → IsEntry last d → d ≤ entry last d

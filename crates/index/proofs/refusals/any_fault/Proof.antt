@@ -9,10 +9,10 @@ use Rattle.index.proofs.refusals.any_fault.Statement.{statement}
 use Rattle.index.proofs.refusals.any_fault.Tie as tie
 
 abbrev Inv-loop : tie.InvT-loop
-Inv-loop last starts postings k₀ k = Over (faulty last) starts postings k
+Inv-loop last checked starts postings k₀ k = Over (faulty last) starts postings k
 
 abbrev μ-loop : tie.MeasureT-loop
-μ-loop last starts postings k₀ k = length starts - k
+μ-loop last checked starts postings k₀ k = length starts - k
 
 pub any-fault-spec : {M : Type 1} → statement M
 any-fault-spec =
@@ -21,7 +21,7 @@ any-fault-spec =
     (λ c. over-start _ _ _)
     (λ c. search needs)
     (λ c κs. search needs)
-    (λ c κs. search needs)
+    (λ c κs. c .before .before .before .before .before .before .pre)
     (λ c. over-found (c .before .before .before .before .loop .inv) (omega arith) (c .before .before .list-at .ensures) (c .before .fault-in .ensures) (c .if1 .taken))
     (λ c. search needs)
     (λ c. over-turn (c .before .before .before .before .loop .inv) (omega arith) (c .before .before .list-at .ensures) (c .before .fault-in .ensures) (c .if1 .left))
