@@ -5,12 +5,12 @@ use mathlib.Core.Bool.{true, false}
 use mathlib.Core.List.{List, [], _∷_}
 use lib.Dec.{eqb}
 use lib.ListN.{length, getD, take, drop, length-take, length-drop}
-use lib.Seq.{drop-cons, drop-length, take-all, drop-drop}
-use native.Mathlib.Numerals.{add-one}
+use lib.Seq.{take-all, drop-drop}
 use native.Mathlib.Omega.{arith}
 use borrow.Author.Tests.{eq-eqb, ne-eqb}
 use Rattle.laws.specs.Front.{until}
 use Rattle.laws.proofs.Cases.{either}
+use Rattle.laws.proofs.Front.{until-within, until-here, until-next, until-end}
 use Rattle.laws.proofs.Lists.{drop-clamped}
 use Rattle.text.specs.Lines.{lines, bytes-before, line-at}
 
@@ -34,28 +34,17 @@ passed-none b s = record { within = omega arith; known = omega arith }
 
 module _ {b : ℕ} {s : List ℕ} {i : ℕ} (p : Passed b s i) where
   pub passed-found : i < length s → getD s i 0 ≡ b → i ≡ bytes-before b s
-  passed-found h e =
-      let f : bytes-before b (drop i s) ≡ 0 = rw (drop-cons s i 0) (before-found b (getD s i 0) (drop (suc i) s) (eq-eqb (getD s i 0) b e)) in
-      omega (arith, p .known)
+  passed-found h e = omega (arith, p .known, until-here (λ x. eqb x b) s i h (eq-eqb (getD s i 0) b e))
 
   pub passed-more : i < length s → (getD s i 0 ≡ b → ⊥) → Passed b s (i + 1)
   passed-more h e =
-      let f : bytes-before b (drop i s) ≡ suc (bytes-before b (drop (i + 1) s)) =
-      rw (add-one, drop-cons s i 0) (before-more b (getD s i 0) (drop (suc i) s) (ne-eqb (getD s i 0) b e)) in
-      record { within = omega arith; known = omega (arith, p .known) }
+      record { within = omega arith; known = omega (arith, p .known, until-next (λ x. eqb x b) s i h (ne-eqb (getD s i 0) b e)) }
 
   pub passed-all : length s ≤ i → i ≡ bytes-before b s
-  unfolding until
-  passed-all h =
-      let e : i ≡ length s = omega (arith, p .within) in
-      let f : bytes-before b (drop i s) ≡ 0 = rw (e, drop-length) in
-      omega (arith, p .known)
+  passed-all h = omega (arith, p .known, until-end (λ x. eqb x b) s i h)
 
 pub before-within : (b : ℕ) (s : List ℕ) → bytes-before b s ≤ length s
-unfolding until
-before-within b [] = omega arith
-before-within b (x ∷ xs) =
-    either (eqb x b) (λ e. omega (arith, before-found b x xs e)) (λ e. omega (arith, before-more b x xs e, before-within b xs))
+before-within b = until-within (λ x. eqb x b)
 
 pub drop-take : (n : ℕ) (s : List ℕ) → take (length s - n) (drop n s) ≡ drop n s
 drop-take n s = take-all (length s - n) (drop n s) (omega (arith, length-drop n s))
