@@ -1,7 +1,7 @@
 -- What was read lies within the buffer.
 use Prim.Native.Nat.{ℕ, _≤_}
 use mathlib.Core.Path.{_≡_}
-use Rattle.plant_search.specs.Input.{Within}
+use Rattle.plant_search.specs.inner.Input.{Within}
 use Rattle.plant_search.specs.declared.Input.{Input}
 use Rattle.plant_search.specs.declared.Input.the-variants.{Bytes}
 

@@ -2,7 +2,7 @@
 use libc::STDIN_FILENO;
 use libc::STDOUT_FILENO;
 ghost use lib.ListN.{length};
-ghost use Rattle.plant_search.specs.Input.{Within};
+ghost use Rattle.plant_search.specs.inner.Input.{Within};
 
 // What comes of reading an input: so many bytes, or it cannot be read.
 pub enum Input {

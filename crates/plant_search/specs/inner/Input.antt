@@ -1,4 +1,4 @@
--- What comes of reading an input.
+-- What comes of reading an input. The contracts of private functions alone cite this.
 use Prim.Native.Nat.{ℕ, _≤_}
 use Rattle.plant_search.specs.declared.Input.{Input}
 use Rattle.plant_search.specs.declared.Input.the-variants.{Bytes, Unreadable}
