@@ -15,35 +15,34 @@ pub fn reach(last: &[u16], posting: u32) -> usize {
     }
 }
 
-/// Refusals 1 to 9. An accepted index is read once; only where that pass finds a fault do two more tell 8 from 9.
+/// Refusals 1 to 9. Accepted branches are gone through once for 2 and 3, and an accepted index once for 8 and 9; only where such
+/// a pass finds a fault do two more tell which it is.
 #[inline(never)]
 pub fn check(t: &Tables) -> u32 {
-    match check_before_postings(t) {
+    match check_before_postings(t, check_branches_at_once) {
         0 if (0..t.starts.len()).any(|k| at_fault(&t.last, list(t, k))) => check_postings(t),
         number => number,
     }
 }
 
-/// The same with both passes over every index: what `check` was before.
+/// The same with a pass for each of the four: what `check` was before.
 #[inline(never)]
 pub fn check_in_two_passes(t: &Tables) -> u32 {
-    match check_before_postings(t) {
+    match check_before_postings(t, check_branches) {
         0 => check_postings(t),
         number => number,
     }
 }
 
-/// Refusals 1 to 7, each in one pass.
-fn check_before_postings(t: &Tables) -> u32 {
+/// Refusals 1 to 7, where `branches` tells 2 and 3.
+fn check_before_postings(t: &Tables, branches: impl Fn(&[u16]) -> u32) -> u32 {
     let n = t.last.len();
     if t.root.len() != n || t.level.len() != n || n > 65_535 {
         return 1;
     }
-    if t.last.iter().enumerate().any(|(i, &end)| (end as usize) < i + 1 || n < end as usize) {
-        return 2;
-    }
-    if (1..=n).rev().any(|d| overlaps(&t.last, d)) {
-        return 3;
+    let refused = branches(&t.last);
+    if refused != 0 {
+        return refused;
     }
     if wrong_root(&t.last, &t.root) {
         return 4;
@@ -58,6 +57,29 @@ fn check_before_postings(t: &Tables) -> u32 {
     let end = t.starts.last().map_or(0, |&s| s as usize);
     if first != 0 || end > t.postings.len() || t.starts.windows(2).any(|w| w[1] < w[0]) {
         return 7;
+    }
+    0
+}
+
+fn out_of_range(last: &[u16], d: usize) -> bool {
+    (last[d - 1] as usize) < d || last.len() < last[d - 1] as usize
+}
+
+/// Refusals 2 and 3, each in one pass.
+fn check_branches(last: &[u16]) -> u32 {
+    if (1..=last.len()).any(|d| out_of_range(last, d)) {
+        return 2;
+    }
+    if (1..=last.len()).rev().any(|d| overlaps(last, d)) {
+        return 3;
+    }
+    0
+}
+
+/// The same, where accepted branches are gone through once.
+fn check_branches_at_once(last: &[u16]) -> u32 {
+    if (1..=last.len()).rev().any(|d| out_of_range(last, d) || overlaps(last, d)) {
+        return check_branches(last);
     }
     0
 }

@@ -175,9 +175,10 @@ impl Ways {
     }
 }
 
-/// The checks answer alike over the tables, and over copies in which one posting was written over: some sound, some refused.
+/// The checks answer alike over the tables, and over copies in which one posting, or where one branch ends, was written over: some
+/// sound, some refused.
 pub fn checks_agree(t: &Tables) {
-    let (mut r, mut copy, mut seen) = (Random(7), t.clone(), [false; 10]);
+    let (mut r, mut branches, mut copy, mut seen) = (Random(7), Random(8), t.clone(), [false; 10]);
     for round in 0..80 {
         let k = r.below(t.postings.len() - 1) + 1;
         let after = t.postings[k - 1] + 2;
@@ -186,8 +187,14 @@ pub fn checks_agree(t: &Tables) {
         assert_eq!([plain::check_in_two_passes(&copy), ffi::check(&copy)], [plain; 2]);
         seen[plain as usize] = true;
         copy.postings[k] = t.postings[k];
+        let d = branches.below(t.size() - 1);
+        copy.last[d] = [0, t.size() as u16, d as u16 + 2, t.last[d]][round as usize % 4];
+        let plain = plain::check(&copy);
+        assert_eq!([plain::check_in_two_passes(&copy), ffi::check(&copy)], [plain; 2]);
+        seen[plain as usize] = true;
+        copy.last[d] = t.last[d];
     }
-    assert!(seen[0] && seen[8] && seen[9]);
+    assert!(seen[0] && seen[2] && seen[3] && seen[8] && seen[9]);
 }
 
 /// Seconds of the steps of a proved search: a search less a check. A processor learns a check that is repeated, so a search goes
