@@ -1,5 +1,6 @@
--- Laws of lines, numbers and words; the readers of texts cite them.
+-- Laws of lines, numbers, patterns and forms; the readers of texts cite them.
 pub mod Lines
 pub mod Decimal
-pub mod Words
+pub mod Patterns
+pub mod Forms
 pub mod Reading

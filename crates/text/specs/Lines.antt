@@ -1,9 +1,9 @@
 -- A text is its whole lines and a tail. "Lines end in LF", byte 10.
-use Prim.Native.Nat.{ℕ}
-use mathlib.Core.Bool.{cond}
+use Prim.Native.Nat.{ℕ, _+_}
+use mathlib.Core.Bool.{Bool, true, false, cond, _&&_}
 use mathlib.Core.List.{List, [], _∷_}
-use lib.Dec.{eqb}
-use lib.ListN.{take, drop}
+use lib.Dec.{ltb, eqb}
+use lib.ListN.{length, take, drop}
 use Rattle.laws.specs.Front.{until}
 
 -- a text's whole lines, without their line feeds, and what stands after the last of those
@@ -22,6 +22,12 @@ lines (b ∷ bs) =
     (record { whole = [] ∷ lines bs .whole; tail = lines bs .tail })
     (onto b (lines bs .whole) (lines bs .tail))
 
+-- whether a text goes on as a word
+unfoldable pub begins : List ℕ → List ℕ → Bool
+begins [] t = true
+begins (w ∷ ws) [] = false
+begins (w ∷ ws) (b ∷ bs) = eqb w b && begins ws bs
+
 -- how many bytes stand before the first that is b; all, where none is
 abbrev pub bytes-before : ℕ → List ℕ → ℕ
 bytes-before b = until (λ x. eqb x b)
@@ -29,3 +35,11 @@ bytes-before b = until (λ x. eqb x b)
 -- the line that begins at an index, without its line feed; nothing past the end
 abbrev pub line-at : List ℕ → ℕ → List ℕ
 line-at t at = take (bytes-before 10 (drop at t)) (drop at t)
+
+-- whether it ends in a line feed
+abbrev pub whole-at : List ℕ → ℕ → Bool
+whole-at t at = ltb (at + length (line-at t at)) (length t)
+
+-- where the next line begins: after the line feed, or at the end
+abbrev pub next-at : List ℕ → ℕ → ℕ
+next-at t at = cond (whole-at t at) (at + length (line-at t at) + 1) (length t)

@@ -1,7 +1,12 @@
 -- Reading a text line by line. "In text the earliest line wins": the first line that is refused decides.
 use Prim.Native.Nat.{ℕ, zero, suc, _+_}
+use mathlib.Core.Bool.{Bool, cond, _&&_}
 use mathlib.Core.List.{List, [], _∷_}
+use lib.Dec.{eqb}
+use lib.ListN.{length}
 use Rattle.text.specs.Lines.{lines}
+use Rattle.text.specs.Forms.{Row, form, plain, unfinished}
+use Rattle.text.specs.declared.Form.{Form}
 
 -- what a line comes to after those that made s: it makes more, or it is refused by a number
 pub data Step (S : Type 0) : Type 0 where
@@ -31,3 +36,14 @@ read-lines line end s k (l ∷ ls) tail = and-then (line s l) k (λ s′. read-l
 -- what is read from line k on, in a text that goes on as t
 abbrev pub reading : {S : Type 0} → (S → List ℕ → Step S) → (S → List ℕ → Step S) → S → ℕ → List ℕ → Read S
 reading line end s k t = read-lines line end s k (lines t .whole) (lines t .tail)
+
+-- A text of forms: what a form does, and when the text is closed. It may end there; bytes without a line feed are an unfinished line, and so is
+-- an end before.
+abbrev pub line-of : {S : Type 0} → List Row → (S → Form → Step S) → S → List ℕ → Step S
+line-of rows step s l = step s (form rows l)
+
+abbrev pub end-of : {S : Type 0} → (S → Bool) → (S → Form → Step S) → S → List ℕ → Step S
+end-of closed step s tail = cond (closed s && eqb (length tail) 0) (to s) (step s (plain unfinished))
+
+abbrev pub reading-forms : {S : Type 0} → List Row → (S → Bool) → (S → Form → Step S) → S → ℕ → List ℕ → Read S
+reading-forms rows closed step = reading (line-of rows step) (end-of closed step)

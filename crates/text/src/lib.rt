@@ -1,61 +1,175 @@
-// Lines, words and numbers of a text: what plant text and query text share.
+// Lines, numbers and forms of a text: what the readers of texts share.
 ghost use mathlib.Core.Path.{_≡_};
-ghost use Prim.Native.Nat.{_+_, _-_, _*_, _≤_, min};
-ghost use Rattle.text.specs.Lines.{«bytes-before», «line-at»};
-ghost use Rattle.text.specs.Decimal.{decimal, number, «two-numbers», capped, «capped-both»};
-ghost use Rattle.text.specs.Words.{after, inside, exactly, opening, «whole-form», «whole-pair»};
-ghost use Rattle.text.specs.inner.Parts.{«is-there», «or-nothing»};
+ghost use mathlib.Core.Bool.{cond};
+ghost use mathlib.Core.List.{[], _∷_};
+ghost use Prim.Native.Nat.{_+_, _-_, _*_, _<_, _≤_};
+ghost use lib.Dec.{eqb};
+ghost use lib.ListN.{length, getD, drop};
+ghost use Rattle.text.specs.Lines.{begins, «bytes-before», «line-at», «whole-at», «next-at»};
+ghost use Rattle.text.specs.Decimal.{digit, «up-to», «number-at»};
+ghost use Rattle.text.specs.Patterns.{fit, misfit, «capped-fit»};
+ghost use Rattle.text.specs.Forms.{other, unfinished, plain, fitted};
+ghost use Rattle.text.specs.inner.Parts.{«zero-at», «no-scan», On, Past};
 
-// A number of a line, if it is there. One above the limit is given as one past the limit.
-pub enum Number {
-    Value(u64),
-    Missing,
+// A number in a text: its value, one past the limit where it is above that, and where it ends: where it would begin, if none is there.
+pub struct NumberAt {
+    pub value: u64,
+    pub end: usize,
 }
 
-pub enum Numbers {
-    Both(u64, u64),
-    Missing,
+// Whether a line fits a pattern, with its last number and the one before it.
+pub struct Fit {
+    pub fits: bool,
+    pub before: u64,
+    pub number: u64,
 }
 
-// The line that begins at `at`, without its line feed. A position past the end counts as the end.
-pub fn line(text: &[u8], at: usize) -> &[u8]
-    ensures { λ r. ⌜ now r ≡ «line-at» (now (text .entry)) at ⌝ }
+// The kind of a line, with its last number and the one before it.
+pub struct Form {
+    pub kind: u32,
+    pub before: u64,
+    pub number: u64,
+}
+
+// A line's form, and where the next line begins.
+pub struct Found {
+    pub form: Form,
+    pub next: usize,
+}
+
+// A line that fits a pattern so far: the numbers that it has had, and where it goes on.
+struct Scan {
+    fits: bool,
+    before: u64,
+    number: u64,
+    at: usize,
+}
+
+// Whether the text goes on as `word` from `at` on. A position past the end counts as the end, here and below.
+pub fn is_at(text: &[u8], at: usize, word: &[u8]) -> bool
+    ensures { λ r. ⌜ r ≡ begins (now (word .entry)) (drop at (now (text .entry))) ⌝ }
 {
     let from = integers::least(at, text.len());
-    let end = from + find(&text[from..], b'\n');
-    &text[from..end]
+    begins(&text[from..], word)
 }
 
-// Whether a line is `word` and nothing more.
-pub fn is_exactly(line: &[u8], word: &[u8]) -> bool
-    ensures { λ r. ⌜ r ≡ exactly (now (word .entry)) (now (line .entry)) ⌝ }
+// The number that begins at `at`: 0, or digits without a leading zero.
+pub fn number_at(text: &[u8], at: usize, limit: u32) -> NumberAt
+    ensures { λ r. ⌜ r ≡ «number-at» limit (now (text .entry)) at ⌝ }
 {
-    if line.len() == word.len() {
-        begins(line, word)
-    } else {
-        false
+    if text.len() <= at {
+        return NumberAt {
+            value: 0,
+            end: text.len(),
+        };
+    }
+    let first = text[at];
+    if first < b'0' {
+        return NumberAt { value: 0, end: at };
+    }
+    if b'9' < first {
+        return NumberAt { value: 0, end: at };
+    }
+    if first == b'0' {
+        return zero_at(text, at);
+    }
+    let mut n = push(0, first, limit);
+    let mut i = at + 1;
+    while i < text.len() {
+        let b = text[i];
+        if b < b'0' {
+            return NumberAt { value: n, end: i };
+        }
+        if b'9' < b {
+            return NumberAt { value: n, end: i };
+        }
+        n = push(n, b, limit);
+        i += 1;
+    }
+    NumberAt { value: n, end: i }
+}
+
+// Whether the line that begins at `at` fits a pattern, in which `#` is a number.
+pub fn fits(text: &[u8], at: usize, pattern: &[u8], limit: u32) -> Fit
+    ensures { λ r. ⌜ r ≡ «capped-fit» limit (fit (now (pattern .entry)) («line-at» (now (text .entry)) at)) ⌝ }
+{
+    let from = integers::least(at, text.len());
+    let mut scan = Scan {
+        fits: true,
+        before: 0,
+        number: 0,
+        at: from,
+    };
+    let mut i = 0;
+    while i < pattern.len() {
+        scan = past(text, pattern[i], limit, scan);
+        if !scan.fits {
+            return misfit();
+        }
+        i += 1;
+    }
+    let before = scan.before;
+    let number = scan.number;
+    if is_end_at(text, scan.at) {
+        return Fit {
+            fits: true,
+            before: before,
+            number: number,
+        };
+    }
+    misfit()
+}
+
+// The form of the line that begins at `at`, if it fits a pattern; else the form `rest`.
+pub fn row(text: &[u8], at: usize, kind: u32, pattern: &[u8], limit: u32, rest: Form) -> Form
+    ensures { λ r. ⌜ r ≡ fitted kind («capped-fit» limit (fit (now (pattern .entry)) («line-at» (now (text .entry)) at))) rest ⌝ }
+{
+    let found = fits(text, at, pattern, limit);
+    let before = found.before;
+    let number = found.number;
+    if found.fits {
+        return Form {
+            kind: kind,
+            before: before,
+            number: number,
+        };
+    }
+    rest
+}
+
+// The form of a line that fits no pattern.
+pub fn no_form() -> Form
+    ensures { λ r. ⌜ r ≡ plain other ⌝ }
+{
+    Form {
+        kind: 1,
+        before: 0,
+        number: 0,
     }
 }
 
-// The number after `word` in a line that opens with it: `(dev 120`.
-pub fn opening_number(line: &[u8], word: &[u8], limit: u32) -> Number
-    ensures { λ r. ⌜ r ≡ capped limit (opening (now (word .entry)) (now (line .entry))) ⌝ }
+// The line that begins at `at`, whose form is `form` if it ends in a line feed.
+pub fn line_at(text: &[u8], at: usize, form: Form) -> Found
+    ensures form { λ r. ⌜ r .form ≡ cond («whole-at» (now (text .entry)) at) form (plain unfinished) ⌝ }
+    ensures next { λ r. ⌜ r .next ≡ «next-at» (now (text .entry)) at ⌝ }
 {
-    number_of(rest(line, word), limit)
-}
-
-// The number of a line that opens with `word` and ends in a closing bracket: `(own 5)`.
-pub fn whole_number(line: &[u8], word: &[u8], limit: u32) -> Number
-    ensures { λ r. ⌜ r ≡ capped limit («whole-form» (now (word .entry)) (now (line .entry))) ⌝ }
-{
-    number_of(inside(line, word), limit)
-}
-
-// The two numbers of a line that opens with `word` and ends in a closing bracket: `(level 100 140)`.
-pub fn whole_numbers(line: &[u8], word: &[u8], limit: u32) -> Numbers
-    ensures { λ r. ⌜ r ≡ «capped-both» limit («whole-pair» (now (word .entry)) (now (line .entry))) ⌝ }
-{
-    numbers_of(inside(line, word), limit)
+    let from = integers::least(at, text.len());
+    let end = from + find(&text[from..], b'\n');
+    if end < text.len() {
+        return Found {
+            form: form,
+            next: end + 1,
+        };
+    }
+    let none = Form {
+        kind: 0,
+        before: 0,
+        number: 0,
+    };
+    Found {
+        form: none,
+        next: text.len(),
+    }
 }
 
 // The index of the first byte of `s` that is `b`, or its length where none is.
@@ -74,7 +188,7 @@ fn find(s: &[u8], b: u8) -> usize
 
 // Whether `s` begins with `word`.
 fn begins(s: &[u8], word: &[u8]) -> bool
-    ensures { λ r. ⌜ r ≡ «is-there» (after (now (word .entry)) (now (s .entry))) ⌝ }
+    ensures { λ r. ⌜ r ≡ begins (now (word .entry)) (now (s .entry)) ⌝ }
 {
     if s.len() < word.len() {
         return false;
@@ -89,92 +203,130 @@ fn begins(s: &[u8], word: &[u8]) -> bool
     true
 }
 
-// What follows `word` in a line that begins with it, or nothing.
-fn rest<'a>(line: &'a [u8], word: &[u8]) -> &'a [u8]
-    ensures { λ r. ⌜ now r ≡ «or-nothing» (after (now (word .entry)) (now (line .entry))) ⌝ }
-{
-    if begins(line, word) {
-        let n = word.len();
-        &line[n..]
-    } else {
-        &line[..0]
-    }
-}
-
-// What stands between `word` and the closing bracket of a line, or nothing.
-fn inside<'a>(line: &'a [u8], word: &[u8]) -> &'a [u8]
-    ensures { λ r. ⌜ now r ≡ «or-nothing» (inside (now (word .entry)) (now (line .entry))) ⌝ }
-{
-    if line.len() == 0 {
-        return &line[..0];
-    }
-    let n = line.len() - 1;
-    if line[n] != b')' {
-        return &line[..0];
-    }
-    rest(&line[..n], word)
-}
-
 // The number n with one more digit b, or one past the limit.
 fn push(n: u64, b: u8, limit: u32) -> u64
     requires { ⌜ (n ≤ limit + 1) × (48 ≤ b) × (b ≤ 57) ⌝ }
-    ensures { λ r. ⌜ r ≡ min (n * 10 + (b - 48)) (limit + 1) ⌝ }
+    ensures { λ r. ⌜ r ≡ «up-to» limit (n * 10 + (b - 48)) ⌝ }
 {
     let top = limit as u64;
     let more = n * 10 + integers::u8_to_u64(b - b'0');
     if top < more { top + 1 } else { more }
 }
 
-// The number that the digits `s` write.
-fn digits(s: &[u8], limit: u32) -> Number
-    ensures { λ r. ⌜ r ≡ capped limit (decimal 0 (now (s .entry))) ⌝ }
+// Whether a digit is at `at`.
+fn is_digit_at(text: &[u8], at: usize) -> bool
+    ensures { λ r. ⌜ r ≡ digit (getD (now (text .entry)) at 0) ⌝ }
 {
-    let mut n: u64 = 0;
-    let mut i = 0;
-    while i < s.len() {
-        let b = s[i];
-        if b < b'0' {
-            return Number::Missing;
-        }
-        if b'9' < b {
-            return Number::Missing;
-        }
-        n = push(n, b, limit);
-        i += 1;
+    if text.len() <= at {
+        return false;
     }
-    Number::Value(n)
+    let b = text[at];
+    if b < b'0' {
+        return false;
+    }
+    b <= b'9'
 }
 
-// The number that `s` writes: 0, or digits without a leading zero.
-fn number_of(s: &[u8], limit: u32) -> Number
-    ensures { λ r. ⌜ r ≡ capped limit (number (now (s .entry))) ⌝ }
+// The number that begins with the `0` at `at`: no digit may follow it.
+fn zero_at(text: &[u8], at: usize) -> NumberAt
+    requires { ⌜ at < length (now text) ⌝ }
+    ensures { λ r. ⌜ r ≡ «zero-at» (now (text .entry)) at ⌝ }
 {
-    if s.len() == 0 {
-        return Number::Missing;
+    let next = at + 1;
+    if is_digit_at(text, next) {
+        return NumberAt { value: 0, end: at };
     }
-    if s.len() == 1 {
-        return digits(s, limit);
+    NumberAt {
+        value: 0,
+        end: next,
     }
-    if s[0] == b'0' {
-        return Number::Missing;
-    }
-    digits(s, limit)
 }
 
-// The two numbers that `s` writes, parted by one space.
-fn numbers_of(s: &[u8], limit: u32) -> Numbers
-    ensures { λ r. ⌜ r ≡ «capped-both» limit («two-numbers» (now (s .entry))) ⌝ }
+fn misfit() -> Fit
+    ensures { λ r. ⌜ r ≡ misfit ⌝ }
 {
-    let space = find(s, b' ');
-    let Number::Value(a) = number_of(&s[..space], limit) else {
-        return Numbers::Missing;
-    };
-    if space == s.len() {
-        return Numbers::Missing;
+    Fit {
+        fits: false,
+        before: 0,
+        number: 0,
     }
-    let next = space + 1;
-    let Number::Value(b) = number_of(&s[next..], limit) else {
-        return Numbers::Missing;
-    };
-    Numbers::Both(a, b)
+}
+
+// A scan that does not go on.
+fn stopped() -> Scan
+    ensures { λ r. ⌜ r ≡ «no-scan» ⌝ }
+{
+    Scan {
+        fits: false,
+        before: 0,
+        number: 0,
+        at: 0,
+    }
+}
+
+// Whether the line that goes on at `at` does so with the byte b.
+fn is_byte_at(text: &[u8], at: usize, b: u8) -> bool
+    ensures { λ r. ⌜ r ≡ begins (b ∷ []) («line-at» (now (text .entry)) at) ⌝ }
+{
+    if text.len() <= at {
+        return false;
+    }
+    let c = text[at];
+    if c == b'\n' {
+        return false;
+    }
+    b == c
+}
+
+// Whether the line that goes on at `at` ends there.
+fn is_end_at(text: &[u8], at: usize) -> bool
+    ensures { λ r. ⌜ r ≡ eqb (length («line-at» (now (text .entry)) at)) 0 ⌝ }
+{
+    if text.len() <= at {
+        return true;
+    }
+    text[at] == b'\n'
+}
+
+// A line against one byte p of a pattern.
+fn past(text: &[u8], p: u8, limit: u32, scan: Scan) -> Scan
+    requires { ⌜ On limit (now text) scan ⌝ }
+    ensures { λ r. ⌜ Past limit (now (text .entry)) p scan r ⌝ }
+{
+    if p == b'#' {
+        return past_number(text, limit, scan);
+    }
+    let at = scan.at;
+    let before = scan.before;
+    let number = scan.number;
+    if is_byte_at(text, at, p) {
+        return Scan {
+            fits: true,
+            before: before,
+            number: number,
+            at: at + 1,
+        };
+    }
+    stopped()
+}
+
+// A line against the `#` of a pattern.
+fn past_number(text: &[u8], limit: u32, scan: Scan) -> Scan
+    requires { ⌜ On limit (now text) scan ⌝ }
+    ensures { λ r. ⌜ Past limit (now (text .entry)) 35 scan r ⌝ }
+{
+    let at = scan.at;
+    let last = scan.number;
+    let found = number_at(text, at, limit);
+    let value = found.value;
+    let end = found.end;
+    if end == at {
+        return stopped();
+    }
+    Scan {
+        fits: true,
+        before: last,
+        number: value,
+        at: end,
+    }
 }

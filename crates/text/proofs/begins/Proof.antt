@@ -2,7 +2,7 @@
 use Prim.Native.Nat.{_-_}
 use lib.ListN.{length}
 use borrow.Author.Needs.{needs}
-use Rattle.text.proofs.Words.{Alike, begins-short, alike-none, alike-not, alike-more, alike-all}
+use Rattle.text.proofs.Lines.{Alike, alike-short, alike-none, alike-not, alike-more, alike-all}
 use Rattle.text.proofs.begins.Statement.{statement}
 use Rattle.text.proofs.begins.Tie as tie
 
@@ -13,7 +13,7 @@ abbrev μ-loop : tie.MeasureT-loop
 μ-loop s word i₀ i = length word - i
 
 returns : tie.Need-returns Inv-loop μ-loop
-returns c = search (begins-short, needs)
+returns c = search (alike-short, needs)
 
 loop-holds : tie.Need-loop-holds Inv-loop μ-loop
 loop-holds c = alike-none _ _ (search needs)

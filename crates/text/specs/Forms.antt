@@ -1,0 +1,50 @@
+-- The forms of lines: a text has a table of patterns, and the first that a line fits says its kind.
+use Prim.Native.Nat.{ℕ}
+use Prim.Native.String.{String}
+use mathlib.Core.Bool.{cond}
+use mathlib.Core.List.{List, [], _∷_}
+use Rattle.text.specs.Lines.{line-at, whole-at, next-at}
+use Rattle.text.specs.Decimal.{up-to}
+use Rattle.text.specs.Patterns.{bytes, fit}
+use Rattle.text.specs.declared.Fit.{Fit}
+use Rattle.text.specs.declared.Form.{Form}
+use Rattle.text.specs.declared.Found.{Found}
+
+-- the kind of line that a pattern is for
+pub record Row : Type 0 where
+  pub kind : ℕ
+  pub pattern : List ℕ
+
+abbrev pub row : ℕ → String → Row
+row kind pattern = record { kind = kind; pattern = bytes pattern }
+
+-- Kinds are numbers. Two are every text's: bytes that end without a line feed, and a line that fits no pattern; a table's own go from 2 on.
+abbrev pub unfinished : ℕ
+unfinished = 0
+
+abbrev pub other : ℕ
+other = 1
+
+-- a form without numbers
+abbrev pub plain : ℕ → Form
+plain kind = record { kind = kind; before = 0; number = 0 }
+
+-- the form of a line that fits, else another
+abbrev pub fitted : ℕ → Fit → Form → Form
+fitted kind f rest = cond (f .fits) (record { kind = kind; before = f .before; number = f .number }) rest
+
+-- the form of a whole line
+unfoldable pub form : List Row → List ℕ → Form
+form [] l = plain other
+form (r ∷ rs) l = fitted (r .kind) (fit (r .pattern) l) (form rs l)
+
+abbrev pub capped-form : ℕ → Form → Form
+capped-form limit f = record { kind = f .kind; before = up-to limit (f .before); number = up-to limit (f .number) }
+
+-- the form of what begins at an index of a text
+abbrev pub form-at : List Row → List ℕ → ℕ → Form
+form-at rows t at = cond (whole-at t at) (form rows (line-at t at)) (plain unfinished)
+
+-- and as a reader finds it: its numbers up to a limit, and where the next line begins
+abbrev pub found-at : ℕ → List Row → List ℕ → ℕ → Found
+found-at limit rows t at = record { form = capped-form limit (form-at rows t at); next = next-at t at }
