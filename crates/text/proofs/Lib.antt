@@ -3,4 +3,5 @@ pub mod Lines
 pub mod Decimal
 pub mod Patterns
 pub mod Forms
+pub mod Known
 pub mod Reading

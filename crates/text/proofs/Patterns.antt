@@ -64,6 +64,9 @@ module _ (t : List ℕ) (at : ℕ) where
   pub line-front : front (line-at t at) ≡ front (drop at t)
   line-front = leads (drop at t) .lead
 
+  pub line-digits : digits (line-at t at) ≡ digits (drop at t)
+  line-digits = leads (drop at t) .many
+
   pub line-behind : behind (line-at t at) ≡ line-at t (at + digits (drop at t))
   line-behind = leads (drop at t) .rest ∙ rw (drop-drop (digits (drop at t)) at t)
 
@@ -115,6 +118,14 @@ long : (l : List ℕ) (m n : ℕ) → eqb (length l) 0 ≡ false → fit-after m
 unfolding fit-after
 long [] m n e = absurd (true≢false e)
 long (b ∷ bs) m n e = refl
+
+-- a number that is there ends after its digits
+pub number-end : (limit : ℕ) (t : List ℕ) (at : ℕ) {r : NumberAt} → at ≤ length t → r ≡ number-at limit t at → (r .end ≡ at → ⊥) → r .end ≡ at + digits (drop at t)
+number-end limit t at {r} l e h = go (number (front (drop at t))) refl
+  where
+    go : (x : Option ℕ) → number (front (drop at t)) ≡ x → r .end ≡ at + digits (drop at t)
+    go none q = let z : r .end ≡ min at (length t) = ap (λ (n : NumberAt). n .end) e ∙ rw q in absurd (h (omega arith))
+    go (some k) q = let z : r .end ≡ min at (length t) + digits (drop at t) = ap (λ (n : NumberAt). n .end) e ∙ rw q in omega arith
 
 -- one byte of a pattern: what its number or its byte comes to
 module _ (limit : ℕ) (t : List ℕ) (s : Scan) (on : On limit t s) where
