@@ -11,7 +11,7 @@ use native.Mathlib.Numerals.{add-one}
 use native.Mathlib.Omega.{arith}
 use borrow.Author.Tests.{le-leb, lt-leb, ne-eqb}
 use Rattle.laws.specs.Front.{until}
-use Rattle.laws.proofs.Cases.{either, by-order}
+use Rattle.laws.proofs.Cases.{either, by-order, split-cond}
 use Rattle.laws.proofs.Front.{until-within, until-here, until-next, until-end}
 use Rattle.text.specs.Decimal.{digit, decimal, number, digits, front, up-to, known-number, number-at}
 use Rattle.text.specs.inner.Parts.{zero-at}
@@ -151,6 +151,10 @@ module _ (t : List ℕ) (at : ℕ) {b : Bool} (e : b ≡ digit (getD t (at + 1) 
 
   pub zero-yes : b ≡ false → record { value = 0; end = at + 1 } ≡ zero-at t at
   zero-yes h = rw (← e, h)
+
+pub zero-within : (t : List ℕ) (at : ℕ) {r : NumberAt} → at < length t → r ≡ zero-at t at → r .end ≤ length t
+zero-within t at {r} h e =
+    rw e (split-cond (λ n. n ≤ length t) (digit (getD t (at + 1) 0)) (λ q. omega arith) (λ q. omega arith))
 
 -- n is what the digits from at up to i make, up to the limit
 pub record Counted (limit : ℕ) (t : List ℕ) (at n i : ℕ) : Type 0 where

@@ -25,6 +25,7 @@ use Rattle.text.specs.declared.Scan.{Scan}
 use Rattle.text.specs.inner.Parts.{Past}
 use Rattle.text.proofs.Decimal.{digits-within}
 use Rattle.text.proofs.Patterns.{line-behind, line-digits, number-end, past-found}
+use Rattle.text.proofs.Forms.{capped-plain}
 
 -- a line from an index on, without numbers yet
 abbrev scan-at : ℕ → Scan
@@ -130,3 +131,12 @@ known-found limit rows t at kind n next f rest e c w x =
     let a : up-to limit (f .before) ≡ 0 = ap (λ (g : Fit). g .before) c in
     let b : up-to limit (f .number) ≡ n = ap (λ (g : Fit). g .number) c in
     rw (← x, w, e, y, a, b)
+
+-- a line that is a word alone
+pub known-alone : (limit : ℕ) (rows : List Row) (t : List ℕ) (at kind : ℕ) (w : List ℕ) → literal w ≡ true → begins (w ++ (10 ∷ [])) (drop at t) ≡ true
+    → form rows w ≡ plain kind → record { form = plain kind; next = at + length w + 1 } ≡ found-at limit rows t at
+known-alone limit rows t at kind w lw bw e =
+    let l = line-ending w t at lw bw in
+    let n : length (line-at t at) ≡ length w = ap length (l .0) in
+    let whole : whole-at t at ≡ true = lt-ltb (at + length (line-at t at)) (length t) (omega (arith, l .1)) in
+    rw (whole, n, l .0, e) (sym (ap (λ (f : Form). record { form = f; next = at + length w + 1 }) (capped-plain limit kind)))

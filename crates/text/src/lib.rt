@@ -55,7 +55,8 @@ pub fn is_at(text: &[u8], at: usize, word: &[u8]) -> bool
 
 // The number that begins at `at`: 0, or digits without a leading zero.
 pub fn number_at(text: &[u8], at: usize, limit: u32) -> NumberAt
-    ensures { λ r. ⌜ r ≡ «number-at» limit (now (text .entry)) at ⌝ }
+    ensures number { λ r. ⌜ r ≡ «number-at» limit (now (text .entry)) at ⌝ }
+    ensures within { λ r. ⌜ r .end ≤ length (now (text .entry)) ⌝ }
 {
     if text.len() <= at {
         return NumberAt {

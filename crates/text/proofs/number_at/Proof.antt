@@ -1,7 +1,7 @@
 -- `text::number_at` meets its contract: n is what the digits from `at` up to i make, up to the limit.
 use Prim.Native.Nat.{_-_}
 use lib.ListN.{length}
-use Rattle.text.proofs.Decimal.{Counted, none-end, none-low, none-high, zero-is, count-first, count-more, stop-low, stop-high, stop-end}
+use Rattle.text.proofs.Decimal.{Counted, none-end, none-low, none-high, zero-is, zero-within, count-first, count-more, stop-low, stop-high, stop-end}
 use borrow.Author.Needs.{needs}
 use Rattle.text.proofs.number_at.Statement.{statement}
 use Rattle.text.proofs.number_at.Tie as tie
@@ -16,20 +16,20 @@ pub number-at-spec : {M : Type 1} → statement M
 number-at-spec =
     tie.close
     (tie.spec Inv-loop μ-loop
-    (λ c. search (none-end, needs))
+    (λ c. (search (none-end, needs), search needs))
     (λ c. search needs)
-    (λ c. search (none-low, needs))
-    (λ c. search (none-high, needs))
+    (λ c. (search (none-low, needs), search needs))
+    (λ c. (search (none-high, needs), search needs))
     (λ c κs. search needs)
-    (λ c. search (zero-is, needs))
+    (λ c. (search (zero-is, needs), search (zero-within, needs)))
     (λ c κs. search needs)
     (λ c. search needs)
     (λ c. search (count-first, needs))
     (λ c. search needs)
-    (λ c. search (stop-low, needs))
-    (λ c. search (stop-high, needs))
+    (λ c. (search (stop-low, needs), search needs))
+    (λ c. (search (stop-high, needs), search needs))
     (λ c κs. search needs)
     (λ c. search needs)
     (λ c. search needs)
     (λ c. search (count-more, needs))
-    (λ c. search (stop-end, needs)))
+    (λ c. (search (stop-end, needs), search needs)))
