@@ -4,16 +4,16 @@ use mathlib.Core.Bool.{Bool, true, false, cond, _&&_, _||_, not}
 use mathlib.Core.List.{List, [], _∷_, _++_}
 use lib.Dec.{leb, ltb, eqb}
 use lib.ListN.{length, set, replicate}
-use Rattle.laws.specs.Limits.{highest-term}
+use Rattle.laws.specs.Limits.{most-devices, highest-term}
 use Rattle.laws.specs.Rows.{pick}
 use Rattle.laws.specs.Tables.{entry}
 use Rattle.plant.specs.Plant.{Plant, plant, size}
 use Rattle.index.specs.Postings.{device, shadowed}
-use Rattle.index.specs.Index.{Index, index, count, list}
-use Rattle.text.specs.Reading.{Step, Read, made, no, unless, reading}
-use Rattle.plant_text.specs.Form.{form, numbered, never, is-close, is-unfinished}
-use Rattle.plant_text.specs.declared.lines.Form.{Form}
-use Rattle.plant_text.specs.declared.lines.Form.the-variants as form
+use Rattle.index.specs.Index.{Index, index, count, list, most-terms, most-postings}
+use Rattle.text.specs.Forms.{unfinished}
+use Rattle.text.specs.Reading.{Step, Read, made, no, unless, reading-forms}
+use Rattle.text.specs.declared.Form.{Form}
+use Rattle.plant_text.specs.Form.{plant-line, device-line, term-line, all-line, close-line, rows, is-posting, numbered}
 use Rattle.plant_text.specs.declared.Room.{Room}
 use Rattle.plant_text.specs.declared.Outcome.{Outcome}
 use Rattle.plant_text.specs.declared.Outcome.the-variants as outcome
@@ -71,50 +71,54 @@ brackets closed ds = 0
 abbrev pub current : State → List ℕ
 current m = list (m .index) (count (m .index))
 
--- 21: "not a form, or a form that can't stand here"; a closing bracket can't be the first line
-abbrev pub stands : State → Form → Bool
-stands m form.Plant = is start m
-stands m (form.Device n) = is devices m
-stands m (form.Term n) = is terms m || (is devices m && empty (m .opened))
-stands m (form.Posting d s) = is postings m
-stands m form.Close = not (is start m)
-stands m form.Other = false
-stands m form.Unfinished = false
+-- 21: "not a form, or a form that can't stand here": the kinds of line that may stand at a stage, where those devices are open; a closing
+-- bracket can't be the first line
+abbrev pub stands : Stage → List ℕ → ℕ → Bool
+stands start ds kind = eqb kind plant-line
+stands devices ds kind = eqb kind device-line || (eqb kind term-line && empty ds) || eqb kind close-line
+stands terms ds kind = eqb kind term-line || eqb kind close-line
+stands postings ds kind = is-posting kind || eqb kind close-line
+stands closed ds kind = eqb kind close-line
+
+abbrev pub misplaced : State → Form → Bool
+misplaced m f = not (stands (m .stage) (m .opened) (f .kind))
 
 -- 26: "a closing bracket with nothing open"
 abbrev pub unopened : State → Form → Bool
-unopened m f = is-close f && eqb (brackets (m .stage) (m .opened)) 0
+unopened m f = eqb (f .kind) close-line && eqb (brackets (m .stage) (m .opened)) 0
 
 -- 22: "level over 255, mark outside 1..65,535, posting device outside 1..N"
 abbrev pub out-of-range : State → Form → Bool
-out-of-range m = numbered (λ n. ltb highest-code n) (λ t. eqb t 0 || ltb highest-term t) (λ d. eqb d 0 || ltb (size (m .plant)) d)
+out-of-range m f =
+    let n = f .number in
+    numbered (ltb highest-code n) (eqb n 0 || ltb highest-term n) (eqb n 0 || ltb (size (m .plant)) n) (f .kind)
 
 -- 23: "a 33rd open device"
 abbrev pub too-deep : State → Form → Bool
-too-deep m = numbered (λ n. leb most-open (length (m .opened))) never never
+too-deep m f = numbered (leb most-open (length (m .opened))) false false (f .kind)
 
 -- 27: "a lent table has no place left for the line"
 abbrev pub no-place : Room → State → Form → Bool
-no-place r m =
-    numbered (λ n. leb (r .devices) (size (m .plant))) (λ t. leb (r .terms) (count (m .index)))
-    (λ d. leb (r .postings) (length (m .index .postings)))
+no-place r m f =
+    numbered (leb (r .devices) (size (m .plant))) (leb (r .terms) (count (m .index))) (leb (r .postings) (length (m .index .postings))) (f .kind)
 
 -- 28: "marks, or devices in a mark, not rising"
 abbrev pub not-rising : State → Form → Bool
-not-rising m =
-    numbered never (λ t. leb t (entry (m .index .terms) (count (m .index)))) (λ d. leb d (device (entry (current m) (length (current m)))))
+not-rising m f =
+    let n = f .number in
+    numbered false (leb n (entry (m .index .terms) (count (m .index)))) (leb n (device (entry (current m) (length (current m))))) (f .kind)
 
 -- 29: "a redundant posting"
 abbrev pub is-redundant : State → Form → Bool
-is-redundant m = numbered never never (λ d. shadowed (m .plant .last) (current m) d)
+is-redundant m f = numbered false false (shadowed (m .plant .last) (current m) (f .number)) (f .kind)
 
 -- document 01's rows for a line of plant text, in its order: the first that applies, or 0. 25: "bytes after the closed plant"; 24: "bytes end,
 -- or a line is unfinished, before the plant closes"
 unfoldable pub line-refusal : Room → State → Form → ℕ
 line-refusal r m f =
     pick (is closed m) 25
-    (pick (is-unfinished f) 24
-    (pick (not (stands m f)) 21
+    (pick (eqb (f .kind) unfinished) 24
+    (pick (misplaced m f) 21
     (pick (unopened m f) 26
     (pick (out-of-range m f) 22
     (pick (too-deep m f) 23
@@ -180,28 +184,27 @@ close m closed = m
 
 -- what a line that is not refused makes
 unfoldable pub next : State → Form → State
-next m form.Plant = at-stage devices m
-next m (form.Device n) = open-device m n
-next m (form.Term t) = open-term m t
-next m (form.Posting d s) = add-posting m d s
-next m form.Close = close m (m .stage)
-next m form.Other = m
-next m form.Unfinished = m
+next m f =
+    let k = f .kind in
+    cond (eqb k plant-line) (at-stage devices m)
+    (cond (eqb k device-line) (open-device m (f .number))
+    (cond (eqb k term-line) (open-term m (f .number))
+    (cond (is-posting k) (add-posting m (f .number) (eqb k all-line))
+    (cond (eqb k close-line) (close m (m .stage))
+    m))))
 
--- what a whole line does, and what the end of the bytes does after some of a line: the text may end where the plant is closed
-abbrev pub line : Room → State → List ℕ → Step State
-line r m l = unless (line-refusal r m (form l)) (next m (form l))
-
-abbrev pub end : Room → State → List ℕ → Step State
-end r m tail = unless (pick (is closed m && empty tail) 0 (line-refusal r m form.Unfinished)) m
+abbrev pub step : Room → State → Form → Step State
+step r m f = unless (line-refusal r m f) (next m f)
 
 -- what a text comes to, with room for so many devices, terms and postings
 unfoldable pub read-plant : Room → List ℕ → Read State
-read-plant r text = cond (ltb longest-text (length text)) (no 20 0) (reading (line r) (end r) nothing 1 text)
+read-plant r text = cond (ltb longest-text (length text)) (no 20 0) (reading-forms rows (is closed) (step r) nothing 1 text)
 
--- the room of lent tables: a device has an entry in each of three, a term in each of two
+-- the room of lent tables: a device has an entry in each of three, a term in each of two. However long they are, it is no more than a plant and an
+-- index may have (rows 1 and 5)
 abbrev pub places : ℕ → ℕ → ℕ → ℕ → ℕ → ℕ → Room
-places l r v t s p = record { devices = min l (min r v); terms = min t s; postings = p }
+places l r v t s p =
+    record { devices = min most-devices (min l (min r v)); terms = min most-terms (min t s); postings = min most-postings p }
 
 abbrev pub room : Plant → Index → Room
 room P I = places (length (P .last)) (length (P .root)) (length (P .level)) (length (I .terms)) (length (I .starts)) (length (I .postings))

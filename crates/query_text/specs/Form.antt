@@ -1,47 +1,44 @@
--- The lines of query text (document 01: ask text): the words that they open with, and the form that a line is.
+-- The lines of query text (document 01: ask text).
 use Prim.Native.Nat.{ℕ}
-use mathlib.Core.Bool.{cond}
+use mathlib.Core.Bool.{Bool, _||_}
 use mathlib.Core.List.{List, [], _∷_}
-use Rattle.text.specs.Words.{exactly, whole-form, whole-pair, or-else, or-both}
-use Rattle.query_text.specs.declared.Form.{Form}
-use Rattle.query_text.specs.declared.Form.the-variants.{Open, Required, Forbidden, Level, Start, Budget, Close, Other}
+use lib.Dec.{eqb}
+use Rattle.text.specs.Forms.{Row, row}
 
--- `(ask`
-abbrev pub word-open : List ℕ
-word-open = 40 ∷ 97 ∷ 115 ∷ 107 ∷ []
+-- The kinds of line, in the order in which they stand.
+abbrev pub open-line : ℕ
+open-line = 2
 
--- `(need `
-abbrev pub word-required : List ℕ
-word-required = 40 ∷ 110 ∷ 101 ∷ 101 ∷ 100 ∷ 32 ∷ []
+abbrev pub required-line : ℕ
+required-line = 3
 
--- `(not `
-abbrev pub word-forbidden : List ℕ
-word-forbidden = 40 ∷ 110 ∷ 111 ∷ 116 ∷ 32 ∷ []
+abbrev pub forbidden-line : ℕ
+forbidden-line = 4
 
--- `(level `
-abbrev pub word-level : List ℕ
-word-level = 40 ∷ 108 ∷ 101 ∷ 118 ∷ 101 ∷ 108 ∷ 32 ∷ []
+abbrev pub level-line : ℕ
+level-line = 5
 
--- `(from `
-abbrev pub word-start : List ℕ
-word-start = 40 ∷ 102 ∷ 114 ∷ 111 ∷ 109 ∷ 32 ∷ []
+abbrev pub start-line : ℕ
+start-line = 6
 
--- `(moves `
-abbrev pub word-budget : List ℕ
-word-budget = 40 ∷ 109 ∷ 111 ∷ 118 ∷ 101 ∷ 115 ∷ 32 ∷ []
+abbrev pub budget-line : ℕ
+budget-line = 7
 
--- `)`
-abbrev pub word-close : List ℕ
-word-close = 41 ∷ []
+abbrev pub close-line : ℕ
+close-line = 8
 
--- the form that a whole line is: `(ask`, `(need 7)`, `(not 9)`, `(level 100 140)`, `(from 1)`, `(moves 50)`, `)`
-unfoldable pub form : List ℕ → Form
-form l =
-    cond (exactly word-open l) Open
-    (or-else (whole-form word-required l) Required
-    (or-else (whole-form word-forbidden l) Forbidden
-    (or-both (whole-pair word-level l) Level
-    (or-else (whole-form word-start l) Start
-    (or-else (whole-form word-budget l) Budget
-    (cond (exactly word-close l) Close
-    Other))))))
+-- how each is written, with `#` for a number
+abbrev pub rows : List Row
+rows =
+    row open-line "(ask"
+    ∷ row required-line "(need #)"
+    ∷ row forbidden-line "(not #)"
+    ∷ row level-line "(level # #)"
+    ∷ row start-line "(from #)"
+    ∷ row budget-line "(moves #)"
+    ∷ row close-line ")"
+    ∷ []
+
+-- which may stand more than once: "at most one each of level, from and moves"
+abbrev pub repeats : ℕ → Bool
+repeats kind = eqb kind required-line || eqb kind forbidden-line
