@@ -1,4 +1,4 @@
--- What an accepted index says of each of its lists.
+-- What an accepted index is, and what it says of each of its lists.
 use Prim.Native.Nat.{ℕ, zero, suc, _+_, _≤_, _<_}
 use mathlib.Core.Path.{_≡_, sym}
 use mathlib.Core.Bool.{false, _||_}
@@ -59,6 +59,13 @@ accepted P I h =
       none-redundant = r9 .0;
     }
 
+-- what is accepted is refused by none of 1 to 9
+pub accepts : (P : Plant) (I : Index) → Accepted P I → tables-refusal P I ≡ 0
+unfolding tables-refusal index-rows
+accepts P I a =
+    let fit : unfit I ≡ false = let x = a .even in let y = a .few-terms in let z = a .few-postings in simp tests (omega arith) in
+    rw (a .tables, fit, a .terms-rise, a .starts-rise, a .none-stray, a .devices-rise, a .none-redundant)
+
 -- the device before index k of a list that stands after device a
 abbrev prior : ℕ → List ℕ → ℕ → ℕ
 prior a l zero = a
@@ -94,12 +101,12 @@ module _ {last l : List ℕ} (s : SoundList last l) where
   pub sound-rising : Rising (length last) 0 l
   sound-rising = rising-of (length last) 0 l above
 
-module _ (P : Plant) (I : Index) (accepts : tables-refusal P I ≡ 0) where
+module _ (P : Plant) (I : Index) (none : tables-refusal P I ≡ 0) where
   -- each list starts no later than it ends, and ends within the postings
   pub bounds : (k : ℕ) → 1 ≤ k → k ≤ count I
       → (entry (I .starts) k ≤ getD (I .starts) k (length (I .postings))) × (getD (I .starts) k (length (I .postings)) ≤ length (I .postings))
   bounds k a b =
-      let h = accepted P I accepts in
+      let h = accepted P I none in
       by-order k (count I)
       (λ v. let e = entry-next (I .starts) k (length (I .postings)) (omega arith) in
       let f = previous (λ s. s) (I .starts) k in
@@ -111,7 +118,7 @@ module _ (P : Plant) (I : Index) (accepts : tables-refusal P I ≡ 0) where
   -- the list of the k-th term
   pub accepted-list : (k : ℕ) → 1 ≤ k → k ≤ count I → SoundList (P .last) (list I k)
   accepted-list k a b =
-      let h = accepted P I accepts in
+      let h = accepted P I none in
       record { placed = none-any _ (h .devices-rise) k a b; single = none-any _ (h .none-redundant) k a b }
 
   -- the list of a term, absent or not

@@ -1,4 +1,5 @@
 pub mod Postings
+pub mod Unshared
 pub mod Index
 pub mod Around
 pub mod Lookup

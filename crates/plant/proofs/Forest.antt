@@ -1,4 +1,4 @@
--- What tables that pass a check say of the branches.
+-- What tables that pass a check say of the branches, and that such tables pass it.
 use Prim.Native.Nat.{ℕ, _+_, _≤_, _<_}
 use mathlib.Core.Path.{_≡_, sym}
 use mathlib.Core.Bool.{false}
@@ -11,7 +11,7 @@ use Rattle.laws.specs.Tables.{entry}
 use Rattle.plant.specs.Plant.{Plant, size, holds, out-of-range, overlap, overlaps, root-of, wrong-root, uneven, plant-refusal}
 use Rattle.laws.proofs.Tests.{tests, flags}
 use Rattle.laws.proofs.Cases.{by-order}
-use Rattle.laws.proofs.Search.{none-any, any-found, lowest-is, Lowest, lowest-of}
+use Rattle.laws.proofs.Search.{none-any, any-found, any-none, lowest-is, Lowest, lowest-of}
 use Rattle.laws.proofs.Rows.{pick-none}
 
 module _ (last : List ℕ) where
@@ -97,3 +97,19 @@ accepted P h =
       holds = λ d l u. let r = root d l u in let h = simp tests at (r .passes) in (r .first, r .last, omega arith);
       lowest = λ d e l u m v. let r = root d l u in let h = simp tests at (r .least e m v) in omega (arith, h (omega arith));
     }
+
+-- sound tables are refused by none of 1 to 4
+pub accepts : (P : Plant) → Sound P → plant-refusal P ≡ 0
+unfolding plant-refusal
+accepts P s =
+    let even : uneven P ≡ false = let a = s .roots in let b = s .levels in let c = s .few in simp tests (omega arith) in
+    let range = any-none (out-of-range (P .last)) {n = size P}
+    (λ d l u. let a = s .own d l u in let b = s .inside d l u in simp tests (omega arith)) in
+    let apart = any-none (overlaps (P .last)) {n = size P}
+    (λ d l u. sym (any-none (overlap (P .last) d) (λ e m w. simp tests (λ p. let h = s .nested d e l u (omega arith) (omega arith) in omega arith)))) in
+    let roots = any-none (wrong-root (P .last) (P .root)) {n = size P}
+    (λ d l u.
+    let h = s .holds d l u in
+    let w : root-of (P .last) d ≡ entry (P .root) d = lowest-is _ (h .0, h .1) (simp tests (omega arith))
+    (λ e m v. simp tests (λ p. s .lowest d e l u m (omega arith))) in simp tests (sym w)) in
+    rw (even, ← range, ← apart, ← roots)

@@ -13,7 +13,12 @@ use Rattle.text.specs.Reading.{Read, made, no}
 use Rattle.plant_text.specs.declared.Room.{Room}
 use Rattle.plant_text.specs.declared.Outcome.the-variants as outcome
 use Rattle.plant_text.specs.PlantText.{State, read-plant, outcome-of, kept, filled}
-use Rattle.plant_text.proofs.Accepted.{passes}
+use Rattle.accepted_text.proofs.Accepted.{Within, passes}
+use Rattle.respond.specs.Respond.{program-room}
+
+-- the program lends no more than a plant and an index may have
+pub program-within : Within program-room
+program-within = record { devices = omega arith; terms = omega arith; postings = omega arith }
 
 -- what the reader answers for a text that it accepts, or refuses
 pub record IsMade (X : Read State) (d t p : ℕ) : Type 0 where
@@ -51,17 +56,17 @@ pub record Tables (r : Room) (text : List ℕ) (d t p : ℕ) (last root level te
   pub in-starts : t ≤ length starts
   pub in-postings : p ≤ length postings
 
-pub tables : (r : Room) (text : List ℕ) (d t p a b c e f g : ℕ) (last root level terms starts postings : List ℕ) →
+pub tables : (r : Room) → Within r → (text : List ℕ) (d t p a b c e f g : ℕ) (last root level terms starts postings : List ℕ) →
     outcome.Made d t p ≡ outcome-of (read-plant r text) →
     plant last root level ≡ (let m = kept (read-plant r text) in plant (filled a (m .plant .last)) (filled b (m .plant .root)) (filled c (m .plant .level))) →
     index terms starts postings ≡ (let m = kept (read-plant r text) in index (filled e (m .index .terms)) (filled f (m .index .starts)) (filled g (m .index .postings))) →
     Tables r text d t p last root level terms starts postings
-tables r text d t p a b c e f g last root level terms starts postings o devices lists =
+tables r w text d t p a b c e f g last root level terms starts postings o devices lists =
     let m = is-made (read-plant r text) d t p o in
     let s = m .state in
     let P = s .plant in
     let I = s .index in
-    let accepted = indexes.accepted P I (passes r text s (m .is)) in
+    let accepted = indexes.accepted P I (passes r w text s (m .is)) in
     let sound = plants.accepted P (accepted .tables) in
     let devices′ = rw (m .is) at devices in
     let lists′ = rw (m .is) at lists in

@@ -7,10 +7,11 @@ use Rattle.laws.specs.Front.{until}
 use Rattle.laws.specs.Search.{any, lowest}
 use Rattle.plant.specs.Plant as plants
 use Rattle.plant.specs.Plant.{Plant, plant}
+use Rattle.index.specs.Unshared.{count-up, unshared, member}
 use Rattle.index.specs.Index as indexes
 use Rattle.index.specs.Index.{Index, index, list-of}
 use Rattle.steps.specs.Moves.{bring}
-use Rattle.steps.specs.Matching.{count-up, unshared, member, every, matches, matching}
+use Rattle.steps.specs.Matching.{every, matches, matching}
 use Rattle.steps.specs.Steps.{round, run}
 use Rattle.query.specs.Query.{empty, terms-of}
 use Rattle.query.specs.Refusals.{common-refusal, query-refusal}

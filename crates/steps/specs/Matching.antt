@@ -1,9 +1,8 @@
 -- What matches, said of lists that are written out unshared. No cursor is in it.
-use Prim.Native.Nat.{ℕ, zero, suc, _+_, _-_}
-use mathlib.Core.Bool.{Bool, true, false, _&&_, _||_, not}
-use mathlib.Core.List.{List, [], _∷_, _++_}
-use lib.Dec.{eqb}
-use Rattle.index.specs.Postings.{device, reach}
+use Prim.Native.Nat.{ℕ, zero, suc, _+_}
+use mathlib.Core.Bool.{Bool, true, false, _&&_, not}
+use mathlib.Core.List.{List, [], _∷_}
+use Rattle.index.specs.Unshared.{unshared, member}
 
 -- what a query asks for: the terms that are required (needed marks) and forbidden (barred marks), as they are written; the level rule; the
 -- positions from start up to the end, which is one past the last of them: N + 1 for a whole plant
@@ -13,20 +12,6 @@ pub record Criteria : Type 0 where
   pub ok : ℕ → Bool
   pub start : ℕ
   pub end : ℕ
-
--- n numbers from a on
-unfoldable pub count-up : ℕ → ℕ → List ℕ
-count-up a zero = []
-count-up a (suc n) = a ∷ count-up (a + 1) n
-
--- document 000's model: a list with each posting written out for every device that it carries to
-unfoldable pub unshared : List ℕ → List ℕ → List ℕ
-unshared last [] = []
-unshared last (q ∷ qs) = count-up (device q) (reach last q + 1 - device q) ++ unshared last qs
-
-unfoldable pub member : ℕ → List ℕ → Bool
-member d [] = false
-member d (e ∷ es) = eqb d e || member d es
 
 unfoldable pub every : (ℕ → Bool) → List ℕ → Bool
 every f [] = true

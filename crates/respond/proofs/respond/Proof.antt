@@ -9,7 +9,7 @@ use lib.ListN.{length-take}
 use Rattle.plant_text.specs.PlantText.{read-plant}
 use Rattle.respond.specs.Lines.{word-plant}
 use Rattle.respond.specs.Respond.{program-room}
-use Rattle.respond.proofs.Tables.{Tables, tables, is-refused}
+use Rattle.respond.proofs.Tables.{Tables, program-within, tables, is-refused}
 use Rattle.respond.proofs.Parts.{numbered₂-room, plant-refused, plant-read, responds}
 
 -- the numbers that the reader answers, and the tables that it leaves
@@ -24,7 +24,7 @@ numbers : (c : tie.After-known-told2) → Numbers c
 numbers c =
     let r = c .before .before .before .before .before .before .before .before .before .read in
     let m = c .before .d .given .0 in
-    tables program-room (now (c .before .before .before .before .before .before .before .before .before .before .before .before .before .before .before .before .before .before .args .plant)) (m .0) (m .1 .0) (m .1 .1 .0) 1024 1024 1024 256 256 4096 _ _ _ _ _ _
+    tables program-room program-within (now (c .before .before .before .before .before .before .before .before .before .before .before .before .before .before .before .before .before .before .args .plant)) (m .0) (m .1 .0) (m .1 .1 .0) 1024 1024 1024 256 256 4096 _ _ _ _ _ _
     (sym (c .before .d .given .1) ∙ r .ensures .0) (r .ensures .1 .0) (r .ensures .1 .1)
 
 returns : tie.Need-returns

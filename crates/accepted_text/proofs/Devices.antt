@@ -1,20 +1,18 @@
 -- The device tables of an accepted text are not refused: at every line, were all open devices to close there, the tables would be sound.
 use Prim.Native.Nat.{ℕ, _+_, _-_, _≤_, _<_}
-use mathlib.Core.Path.{_≡_, refl, sym, _∙_}
+use mathlib.Core.Path.{_≡_, refl, _∙_}
 use mathlib.Core.Logic.{_⊎_, inl, inr}
-use mathlib.Core.Bool.{false}
 use mathlib.Core.List.{List, [], _∷_, _++_}
 use native.Mathlib.Omega.{arith}
 use lib.ListN.{length, set, length-set, length-append}
 use lib.Seq.{getD-set-same, getD-set-other}
+use Rattle.laws.specs.Limits.{most-devices}
 use Rattle.laws.specs.Tables.{entry}
-use Rattle.laws.proofs.Tests.{tests}
 use Rattle.laws.proofs.Cases.{by-order, cases}
-use Rattle.laws.proofs.Search.{any-none, lowest-is}
-use Rattle.plant.specs.Plant.{Plant, plant, size, plant-refusal, uneven, out-of-range, overlap, overlaps, root-of, wrong-root}
-use Rattle.plant.proofs.Forest.{Sound}
+use Rattle.plant.specs.Plant.{Plant, plant, size, plant-refusal}
+use Rattle.plant.proofs.Forest.{Sound, accepts}
+use Rattle.index.proofs.Growing.{entry-before, entry-new}
 use Rattle.plant_text.specs.PlantText.{outermost}
-use Rattle.plant_text.proofs.Lists.{entry-before, entry-new}
 
 -- the table of last devices, were the open devices to close after n devices
 unfoldable pub shut : List ℕ → ℕ → List ℕ → List ℕ
@@ -214,7 +212,7 @@ module _ (last root level : List ℕ) (v : ℕ) (ds B : List ℕ) (nest : Nest l
       let k = s .inside e m (omega arith) in
       cases (grown e m (omega arith)) (λ x. omega arith) (λ x. omega arith))
 
-  opened-sound : length last + 1 ≤ 65535 → Sound (plant T′ R′ (level ++ (v ∷ [])))
+  opened-sound : length last + 1 ≤ most-devices → Sound (plant T′ R′ (level ++ (v ∷ [])))
   opened-sound few =
       let z = long in
       let z′ = long′ in
@@ -251,7 +249,7 @@ growing-none = record {
 }
 
 module _ (ds : List ℕ) (P : Plant) where
-  pub growing-open : (v : ℕ) → Growing ds P → size P + 1 ≤ 65535 →
+  pub growing-open : (v : ℕ) → Growing ds P → size P + 1 ≤ most-devices →
       Growing ((size P + 1) ∷ ds) (plant (P .last ++ (0 ∷ [])) (P .root ++ (outermost ds (size P + 1) ∷ [])) (P .level ++ (v ∷ [])))
   unfolding shut
   growing-open v g few =
@@ -288,17 +286,5 @@ module _ (ds : List ℕ) (P : Plant) where
 
 -- with no device open the tables are those that a check accepts
 pub growing-end : (P : Plant) → Growing [] P → plant-refusal P ≡ 0
-unfolding plant-refusal shut
-growing-end P g =
-    let s = g .sound in
-    let even : uneven P ≡ false = let a = s .roots in let b = s .levels in let c = s .few in simp tests (omega arith) in
-    let range = any-none (out-of-range (P .last)) {n = size P}
-    (λ d l u. let a = s .own d l u in let b = s .inside d l u in simp tests (omega arith)) in
-    let apart = any-none (overlaps (P .last)) {n = size P}
-    (λ d l u. sym (any-none (overlap (P .last) d) (λ e m w. simp tests (λ p. let h = s .nested d e l u (omega arith) (omega arith) in omega arith)))) in
-    let roots = any-none (wrong-root (P .last) (P .root)) {n = size P}
-    (λ d l u.
-    let h = s .holds d l u in
-    let w : root-of (P .last) d ≡ entry (P .root) d = lowest-is _ (h .0, h .1) (simp tests (omega arith))
-    (λ e m v. simp tests (λ p. s .lowest d e l u m (omega arith))) in simp tests (sym w)) in
-    rw (even, ← range, ← apart, ← roots)
+unfolding shut
+growing-end P g = accepts P (g .sound)

@@ -1,0 +1,3 @@
+-- An accepted plant text makes tables that are accepted.
+mod Devices
+pub mod Accepted
