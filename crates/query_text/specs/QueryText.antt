@@ -23,7 +23,7 @@ first-stage = open-line
 
 -- the stage after the close: no line may follow
 abbrev pub closed-stage : ℕ
-closed-stage = 9
+closed-stage = close-line + 1
 
 abbrev pub next-stage : ℕ → ℕ
 next-stage kind = cond (repeats kind) kind (kind + 1)

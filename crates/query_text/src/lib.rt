@@ -1,27 +1,43 @@
 // Reads query text (document 01: ask text) into a query.
 use query::Levels;
 use query::Query;
-use text::Number;
-use text::Numbers;
+use text::Form;
+use text::Found;
 ghost use mathlib.Core.Path.{_≡_};
 ghost use mathlib.Core.Bool.{false, _&&_};
-ghost use Prim.Native.Nat.{_+_, _≤_};
-ghost use lib.Dec.{ltb, eqb};
-ghost use lib.ListN.{length};
+ghost use lib.Dec.{eqb};
 ghost use Rattle.laws.specs.Limits.{largest-number};
-ghost use Rattle.text.specs.Lines.{line-at};
+ghost use Rattle.text.specs.Forms.{found-at};
 ghost use Rattle.text.specs.Reading.{made, no};
-ghost use Rattle.query_text.specs.Form.{form};
-ghost use Rattle.query_text.specs.QueryText.{begun, closed, rank, next-stage, out-of-order, unfinished, over, ninth, line-refusal, with-form, with-line, told, read-query};
-ghost use Rattle.query_text.specs.inner.Capped.{capped-form, form-at};
+ghost use Rattle.query_text.specs.Form.{rows, repeats};
+ghost use Rattle.query_text.specs.QueryText.{begun, closed, next-stage, out-of-order, over, ninth, line-refusal, with-form, with-line, told, read-query};
 
 // The largest number of a line. A larger one is read as one above it.
 const LARGEST_NUMBER: u32 = 4294967295;
 
 const LONGEST_TEXT: usize = 4096;
 
-// The stage once the query is closed.
-const CLOSED: u32 = 8;
+// The kinds of line, in the order in which they stand. An unfinished one is below them all.
+const UNFINISHED: u32 = 0;
+
+const OPEN: u32 = 2;
+
+const REQUIRED: u32 = 3;
+
+const FORBIDDEN: u32 = 4;
+
+const LEVEL: u32 = 5;
+
+const START: u32 = 6;
+
+const BUDGET: u32 = 7;
+
+const CLOSE: u32 = 8;
+
+// The stage before the first line, and once the query is closed.
+const FIRST_STAGE: u64 = OPEN as u64;
+
+const CLOSED: u64 = CLOSE as u64 + 1;
 
 // What a text comes to: the refusal, its line and the empty query, or 0, 0 and the query.
 pub struct QueryRead {
@@ -30,29 +46,11 @@ pub struct QueryRead {
     pub query: Query,
 }
 
-// What a line is.
-enum Form {
-    Open,
-    Required(u64),
-    Forbidden(u64),
-    Level(u64, u64),
-    Start(u64),
-    Budget(u64),
-    Close,
-    Other,
-    Unfinished,
-}
-
-// What the lines so far make: the lowest rank that the next line may have, and the query.
+// What the lines so far make: the lowest kind that the next line may be of, and the query. A stage is wider than a kind, so that each kind has
+// one after it.
 struct Draft {
-    stage: u32,
+    stage: u64,
     query: Query,
-}
-
-// A line's form, and where the next line begins.
-struct Line {
-    form: Form,
-    next: usize,
 }
 
 // The query that a text writes, or why and at which line it is refused.
@@ -108,7 +106,7 @@ fn begun() -> Draft
 {
     let query = Query::empty();
     Draft {
-        stage: 1,
+        stage: FIRST_STAGE,
         query: query,
     }
 }
@@ -120,53 +118,19 @@ fn is_finished(draft: Draft, left: usize) -> bool
     draft.stage == CLOSED && left == 0
 }
 
-// The line that begins at `at`.
-fn line_at(text: &[u8], at: usize) -> Line
-    requires { ⌜ at ≤ length (now text) ⌝ }
-    ensures { λ r. ⌜ (r .form ≡ form-at (now (text .entry)) at) × (r .next ≡ at + length (line-at (now (text .entry)) at) + 1) ⌝ }
+// The line that begins at `at`: its form is that of the first row that it fits, and the rows stand here from the last to the first.
+fn line_at(text: &[u8], at: usize) -> Found
+    ensures { λ r. ⌜ r ≡ found-at largest-number rows (now (text .entry)) at ⌝ }
 {
-    let line = text::line(text, at);
-    let end = at + line.len();
-    if end < text.len() {
-        let form = form_of(line);
-        Line {
-            form: form,
-            next: end + 1,
-        }
-    } else {
-        Line {
-            form: Form::Unfinished,
-            next: end + 1,
-        }
-    }
-}
-
-// The form of a whole line.
-fn form_of(line: &[u8]) -> Form
-    ensures { λ r. ⌜ r ≡ capped-form largest-number (form (now (line .entry))) ⌝ }
-{
-    if text::is_exactly(line, b"(ask") {
-        return Form::Open;
-    }
-    if let Number::Value(n) = text::whole_number(line, b"(need ", LARGEST_NUMBER) {
-        return Form::Required(n);
-    }
-    if let Number::Value(n) = text::whole_number(line, b"(not ", LARGEST_NUMBER) {
-        return Form::Forbidden(n);
-    }
-    if let Numbers::Both(low, high) = text::whole_numbers(line, b"(level ", LARGEST_NUMBER) {
-        return Form::Level(low, high);
-    }
-    if let Number::Value(n) = text::whole_number(line, b"(from ", LARGEST_NUMBER) {
-        return Form::Start(n);
-    }
-    if let Number::Value(n) = text::whole_number(line, b"(moves ", LARGEST_NUMBER) {
-        return Form::Budget(n);
-    }
-    if text::is_exactly(line, b")") {
-        return Form::Close;
-    }
-    Form::Other
+    let form = text::no_form();
+    let form = text::row(text, at, CLOSE, b")", LARGEST_NUMBER, form);
+    let form = text::row(text, at, BUDGET, b"(moves #)", LARGEST_NUMBER, form);
+    let form = text::row(text, at, START, b"(from #)", LARGEST_NUMBER, form);
+    let form = text::row(text, at, LEVEL, b"(level # #)", LARGEST_NUMBER, form);
+    let form = text::row(text, at, FORBIDDEN, b"(not #)", LARGEST_NUMBER, form);
+    let form = text::row(text, at, REQUIRED, b"(need #)", LARGEST_NUMBER, form);
+    let form = text::row(text, at, OPEN, b"(ask", LARGEST_NUMBER, form);
+    text::line_at(text, at, form)
 }
 
 // The refusal of a line, or 0: the first row that applies.
@@ -174,14 +138,14 @@ fn line_refusal(draft: Draft, form: Form) -> u32
     ensures { λ r. ⌜ r ≡ line-refusal draft form ⌝ }
 {
     let query = draft.query;
-    let unfinished = is_unfinished(form);
-    let misplaced = is_out_of_order(draft.stage, rank(form));
+    let kind = form.kind;
+    let misplaced = is_out_of_order(draft.stage, kind);
     let over = is_over(form);
-    let ninth = is_ninth(query, form);
+    let ninth = is_ninth(query, kind);
     if draft.stage == CLOSED {
         return 34;
     }
-    if unfinished {
+    if kind == UNFINISHED {
         return 33;
     }
     if misplaced {
@@ -196,101 +160,46 @@ fn line_refusal(draft: Draft, form: Form) -> u32
     0
 }
 
-fn is_unfinished(form: Form) -> bool
-    ensures { λ r. ⌜ r ≡ unfinished form ⌝ }
+// Whether a line of a kind may stand more than once.
+fn repeats(kind: u32) -> bool
+    ensures { λ r. ⌜ r ≡ repeats kind ⌝ }
 {
-    match form {
-        Form::Unfinished => true,
-        Form::Open => false,
-        Form::Required(_) => false,
-        Form::Forbidden(_) => false,
-        Form::Level(_, _) => false,
-        Form::Start(_) => false,
-        Form::Budget(_) => false,
-        Form::Close => false,
-        Form::Other => false,
-    }
+    kind == REQUIRED || kind == FORBIDDEN
 }
 
-// The rank of a kind of line: lines stand in the order of their ranks.
-fn rank(form: Form) -> u32
-    ensures { λ r. ⌜ r ≡ rank form ⌝ }
+// The lowest kind that the line after a line may be of.
+fn next_stage(kind: u32) -> u64
+    ensures { λ r. ⌜ r ≡ next-stage kind ⌝ }
 {
-    match form {
-        Form::Open => 1,
-        Form::Required(_) => 2,
-        Form::Forbidden(_) => 3,
-        Form::Level(_, _) => 4,
-        Form::Start(_) => 5,
-        Form::Budget(_) => 6,
-        Form::Close => 7,
-        Form::Other => 0,
-        Form::Unfinished => 0,
+    if repeats(kind) {
+        return kind as u64;
     }
+    kind as u64 + 1
 }
 
-// The lowest rank that the line after a line may have: a need or not line may repeat.
-fn next_stage(form: Form) -> u32
-    ensures { λ r. ⌜ r ≡ next-stage form ⌝ }
+// Whether a line of a kind may not stand at a stage: its kind is too low, or it is first and does not open the query.
+fn is_out_of_order(stage: u64, kind: u32) -> bool
+    ensures { λ r. ⌜ r ≡ out-of-order stage kind ⌝ }
 {
-    match form {
-        Form::Open => 2,
-        Form::Required(_) => 2, // may repeat
-        Form::Forbidden(_) => 3, // may repeat
-        Form::Level(_, _) => 5,
-        Form::Start(_) => 6,
-        Form::Budget(_) => 7,
-        Form::Close => CLOSED,
-        Form::Other => 0,
-        Form::Unfinished => 0,
-    }
-}
-
-// Whether a line of rank r may not stand at a stage: its rank is too low, or it is first and does not open the query.
-fn is_out_of_order(stage: u32, r: u32) -> bool
-    ensures { λ b. ⌜ b ≡ out-of-order stage r ⌝ }
-{
-    r < stage || (stage == 1 && 1 < r)
+    (kind as u64) < stage || (stage == FIRST_STAGE && OPEN < kind)
 }
 
 // Whether a number of a line is over the limit.
 fn is_over(form: Form) -> bool
     ensures { λ r. ⌜ r ≡ over form ⌝ }
 {
-    match form {
-        Form::Required(n) => exceeds(n),
-        Form::Forbidden(n) => exceeds(n),
-        Form::Level(low, high) => exceeds(low) || exceeds(high),
-        Form::Start(n) => exceeds(n),
-        Form::Budget(n) => exceeds(n),
-        Form::Open => false,
-        Form::Close => false,
-        Form::Other => false,
-        Form::Unfinished => false,
-    }
-}
-
-fn exceeds(n: u64) -> bool
-    ensures { λ r. ⌜ r ≡ ltb largest-number n ⌝ }
-{
-    (LARGEST_NUMBER as u64) < n
+    let limit = LARGEST_NUMBER as u64;
+    limit < form.before || limit < form.number
 }
 
 // Whether a line is a ninth need or not line.
-fn is_ninth(query: Query, form: Form) -> bool
-    ensures { λ r. ⌜ r ≡ ninth query form ⌝ }
+fn is_ninth(query: Query, kind: u32) -> bool
+    ensures { λ r. ⌜ r ≡ ninth query kind ⌝ }
 {
-    match form {
-        Form::Required(_) => Query::MOST_TERMS <= query.required.count,
-        Form::Forbidden(_) => Query::MOST_TERMS <= query.forbidden.count,
-        Form::Open => false,
-        Form::Level(_, _) => false,
-        Form::Start(_) => false,
-        Form::Budget(_) => false,
-        Form::Close => false,
-        Form::Other => false,
-        Form::Unfinished => false,
+    if kind == REQUIRED {
+        return Query::MOST_TERMS <= query.required.count;
     }
+    kind == FORBIDDEN && Query::MOST_TERMS <= query.forbidden.count
 }
 
 // What the lines make with one line more.
@@ -301,7 +210,7 @@ fn with_line(draft: Draft, form: Form) -> Draft
     let before = draft.query;
     let query = with_form(before, form);
     Draft {
-        stage: next_stage(form),
+        stage: next_stage(form.kind),
         query: query,
     }
 }
@@ -311,15 +220,23 @@ fn with_form(query: Query, form: Form) -> Query
     requires { ⌜ over form ≡ false ⌝ }
     ensures { λ r. ⌜ r ≡ with-form query form ⌝ }
 {
-    match form {
-        Form::Required(n) => query.with_required(n as u32),
-        Form::Forbidden(n) => query.with_forbidden(n as u32),
-        Form::Level(low, high) => query.with_levels(Levels::Range(low as u32, high as u32)),
-        Form::Start(n) => query.with_start(n as u32),
-        Form::Budget(n) => query.with_budget(n as u32),
-        Form::Open => query,
-        Form::Close => query,
-        Form::Other => query,
-        Form::Unfinished => query,
+    let kind = form.kind;
+    let number = form.number as u32;
+    if kind == REQUIRED {
+        return query.with_required(number);
     }
+    if kind == FORBIDDEN {
+        return query.with_forbidden(number);
+    }
+    if kind == LEVEL {
+        let low = form.before as u32;
+        return query.with_levels(Levels::Range(low, number));
+    }
+    if kind == START {
+        return query.with_start(number);
+    }
+    if kind == BUDGET {
+        return query.with_budget(number);
+    }
+    query
 }

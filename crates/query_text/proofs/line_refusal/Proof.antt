@@ -7,7 +7,7 @@ use Rattle.query_text.proofs.line_refusal.Tie as tie
 pub line-refusal-spec : {M : Type 1} → statement M
 line-refusal-spec =
     tie.close
-    (tie.spec (λ c κs. search needs) (λ c κs. search needs) (λ c κs. search needs) (λ c κs. search needs) (λ c κs. search needs)
+    (tie.spec (λ c κs. search needs) (λ c κs. search needs) (λ c κs. search needs)
     (λ c. search (row-34, needs))
     (λ c. search (row-33, needs))
     (λ c. search (row-31, needs))

@@ -4,7 +4,7 @@ use mathlib.Core.Path.{sym, _∙_}
 use lib.ListN.{length}
 use native.Mathlib.Omega.{arith}
 use borrow.Author.Needs.{needs}
-use Rattle.query_text.proofs.Turns.{Reads, too-long, reads-begun, reads-finished, reads-refused, reads-more}
+use Rattle.query_text.proofs.Turns.{Reads, too-long, reads-begun, reads-finished, reads-refused, reads-less, reads-more}
 use Rattle.query_text.proofs.read.Statement.{statement}
 use Rattle.query_text.proofs.read.Tie as tie
 
@@ -13,9 +13,6 @@ Inv-loop text draft₀ at₀ line₀ draft at line = Reads text draft at line
 
 abbrev μ-loop : tie.MeasureT-loop
 μ-loop text draft₀ at₀ line₀ draft at line = length text - at
-
-loop-again : tie.Need-loop-again Inv-loop μ-loop
-loop-again c = search (reads-more, needs)
 
 pub read-spec : {M : Type 1} → statement M
 read-spec =
@@ -36,6 +33,6 @@ read-spec =
     (λ c κs. search needs)
     (λ c. search (reads-refused, needs))
     (λ c κs. sym (c .before .line-refusal .ensures) ∙ c .if3 .left)
-    (λ c. let a = c .before .before .before .before .before .before .loop .inv in omega arith)
-    (λ c. let a = loop-again c in omega (arith, c .before .before .before .line-at .ensures .1))
-    loop-again)
+    (λ c. let a = c .before .before .before .before .before .before .before .loop .inv in omega arith)
+    (λ c. search (reads-less, needs))
+    (λ c. search (reads-more, needs)))

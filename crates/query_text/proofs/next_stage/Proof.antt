@@ -1,0 +1,14 @@
+-- `query_text::next_stage` meets its contract.
+use mathlib.Core.Path.{sym, _∙_}
+use borrow.Author.Needs.{needs}
+use Rattle.query_text.proofs.next_stage.Statement.{statement}
+use Rattle.query_text.proofs.next_stage.Tie as tie
+
+pub next-stage-spec : {M : Type 1} → statement M
+next-stage-spec =
+    tie.close
+    (tie.spec
+    (λ c κs. search needs)
+    (λ c. rw (sym (c .before .repeats .ensures) ∙ c .if1 .taken))
+    (λ c. search needs)
+    (λ c. rw (sym (c .before .repeats .ensures) ∙ c .if1 .left)))
