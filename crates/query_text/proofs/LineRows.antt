@@ -1,8 +1,7 @@
 -- The rows of query text: one line, its numbers known up to the limit.
 use Prim.Native.Nat.{ℕ, _≤_}
-use mathlib.Core.Path.{_≡_, refl, sym, ap, _∙_}
+use mathlib.Core.Path.{_≡_, refl, sym, _∙_}
 use mathlib.Core.Bool.{Bool, true, false}
-use mathlib.Core.List.{List, [], _∷_}
 use lib.Dec.{eqb}
 use native.Mathlib.Omega.{arith}
 use borrow.Author.Tests.{eq-eqb, ne-eqb, eqb-false}
@@ -11,24 +10,12 @@ use Rattle.laws.specs.Rows.{pick}
 use Rattle.laws.proofs.Rows.{pick-none}
 use Rattle.laws.proofs.Tests.{tests, flags}
 use Rattle.laws.proofs.Cases.{either}
-use Rattle.text.specs.Patterns.{fit, capped-fit}
-use Rattle.text.specs.Forms.{Row, unfinished, other, plain, fitted, form, capped-form}
+use Rattle.text.specs.Forms.{unfinished, capped-form}
 use Rattle.text.specs.Decimal.{up-to}
 use Rattle.text.specs.Reading.{refused, unless}
 use Rattle.text.specs.declared.Form.{Form}
-use Rattle.text.proofs.Forms.{capped-plain, row-up}
 use Rattle.query_text.specs.QueryText.{closed-stage, closed, out-of-order, over, ninth, line-refusal, with-line, step}
 use Rattle.query_text.specs.declared.Draft.{Draft}
-
--- the form of a line by the rows of a table, from the last on
-module _ (limit : ℕ) where
-  pub no-rows : (l : List ℕ) {f : Form} → f ≡ plain other → f ≡ capped-form limit (form [] l)
-  unfolding form
-  no-rows l e = e ∙ sym (capped-plain limit other)
-
-  pub row-on : (r : Row) (rs : List Row) (l : List ℕ) {f g : Form} → f ≡ capped-form limit (form rs l)
-      → g ≡ fitted (r .kind) (capped-fit limit (fit (r .pattern) l)) f → g ≡ capped-form limit (form (r ∷ rs) l)
-  row-on r rs l p q = q ∙ ap (fitted (r .kind) (capped-fit limit (fit (r .pattern) l))) p ∙ sym (row-up limit r rs l)
 
 -- a line that no row refuses is finished, and has no number over the limit
 module _ (d : Draft) (f : Form) (h : line-refusal d f ≡ 0) where

@@ -2,14 +2,14 @@
 use Prim.Native.Nat.{ℕ, _+_, _-_, _<_, _≤_, min}
 use mathlib.Core.Path.{_≡_, refl, sym, ap, _∙_, subst}
 use mathlib.Core.Bool.{Bool, true, false, cond}
-use mathlib.Core.List.{List, _∷_}
+use mathlib.Core.List.{List, [], _∷_}
 use lib.ListN.{length, take, drop}
 use native.Mathlib.Omega.{arith}
 use Rattle.laws.proofs.Cases.{either}
 use Rattle.text.specs.Lines.{bytes-before, line-at, whole-at, next-at}
 use Rattle.text.specs.Decimal.{up-to}
 use Rattle.text.specs.Patterns.{fit, capped-fit}
-use Rattle.text.specs.Forms.{Row, unfinished, plain, fitted, form, capped-form, form-at, found-at}
+use Rattle.text.specs.Forms.{Row, unfinished, other, plain, fitted, form, capped-form, form-at, found-at}
 use Rattle.text.specs.declared.Fit.{Fit}
 use Rattle.text.specs.declared.Form.{Form}
 use Rattle.text.specs.declared.Found.{Found}
@@ -27,6 +27,16 @@ row-up limit r rs l = go (fit (r .pattern) l .fits)
         ≡ cond b (record { kind = r .kind; before = up-to limit (fit (r .pattern) l .before); number = up-to limit (fit (r .pattern) l .number) }) (capped-form limit (form rs l))
     go true = refl
     go false = refl
+
+-- the form of a line by the rows of a table, from the last on
+module _ (limit : ℕ) (l : List ℕ) where
+  pub no-rows : {f : Form} → f ≡ plain other → f ≡ capped-form limit (form [] l)
+  unfolding form
+  no-rows e = e ∙ sym (capped-plain limit other)
+
+  pub row-on : (r : Row) (rs : List Row) {f g : Form} → f ≡ capped-form limit (form rs l) → g ≡ fitted (r .kind) (capped-fit limit (fit (r .pattern) l)) f
+      → g ≡ capped-form limit (form (r ∷ rs) l)
+  row-on r rs p q = q ∙ ap (fitted (r .kind) (capped-fit limit (fit (r .pattern) l))) p ∙ sym (row-up limit r rs l)
 
 module _ (limit : ℕ) (rows : List Row) (t : List ℕ) (at : ℕ) where
   -- what a reader finds, by the form of the line there

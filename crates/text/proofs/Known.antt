@@ -1,24 +1,22 @@
 -- A line that is a word, a number and an ending, as a reader may find it before it asks its table.
-use Prim.Native.Nat.{ℕ, suc, _+_, _-_, _<_, _≤_, min}
+use Prim.Native.Nat.{ℕ, suc, _+_, _-_, _<_, _≤_}
 use mathlib.Core.Path.{_≡_, refl, sym, ap, _∙_}
-use mathlib.Core.Bool.{Bool, true, false, cond, not, _&&_, true≢false}
+use mathlib.Core.Bool.{Bool, true, false, not, _&&_, true≢false}
 use mathlib.Core.List.{List, [], _∷_, _++_}
-use mathlib.Core.Option.{Option, none, some}
-use lib.Dec.{ltb, eqb}
-use lib.ListN.{length, getD, take, drop, length-append, length-drop, drop-of-length-le}
+use lib.Dec.{eqb}
+use lib.ListN.{length, getD, drop, length-append, length-drop, drop-of-length-le}
 use lib.Seq.{drop-cons}
 use native.Mathlib.Numerals.{add-one}
 use native.Mathlib.Omega.{arith}
-use borrow.Author.Tests.{lt-ltb, eq-eqb, ne-eqb, eqb-true, eqb-false}
+use borrow.Author.Tests.{lt-ltb, eq-eqb, eqb-true, eqb-false}
 use Rattle.laws.proofs.Tests.{and-yes, not-yes}
-use Rattle.laws.proofs.Cases.{either, by-order}
+use Rattle.laws.proofs.Cases.{by-order}
 use Rattle.text.specs.Lines.{begins, line-at, whole-at, next-at}
-use Rattle.text.specs.Decimal.{number, digits, front, behind, up-to, number-at}
-use Rattle.text.specs.Patterns.{any-number, fit, fit-after, fitting, past-number, capped-fit}
-use Rattle.text.specs.Forms.{Row, plain, fitted, form, capped-form, found-at}
+use Rattle.text.specs.Decimal.{number, digits, behind, up-to, number-at}
+use Rattle.text.specs.Patterns.{any-number, fit, fit-after, fitting, capped-fit}
+use Rattle.text.specs.Forms.{Row, plain, fitted, form, found-at}
 use Rattle.text.specs.declared.Fit.{Fit}
 use Rattle.text.specs.declared.Form.{Form}
-use Rattle.text.specs.declared.Found.{Found}
 use Rattle.text.specs.declared.NumberAt.{NumberAt}
 use Rattle.text.proofs.Lines.{line-cons, line-nil}
 use Rattle.text.specs.declared.Scan.{Scan}

@@ -6,9 +6,8 @@ use Rattle.laws.specs.Limits.{largest-number}
 use Rattle.text.specs.Lines.{line-at}
 use Rattle.text.specs.Patterns.{bytes}
 use Rattle.text.specs.Forms.{row}
-use Rattle.text.proofs.Forms.{found-is}
+use Rattle.text.proofs.Forms.{no-rows, row-on, found-is}
 use Rattle.query_text.specs.Form.{open-line, required-line, forbidden-line, level-line, start-line, budget-line, close-line, rows}
-use Rattle.query_text.proofs.LineRows.{no-rows, row-on}
 use Rattle.query_text.proofs.line_at.Statement.{statement}
 use Rattle.query_text.proofs.line_at.Tie as tie
 
@@ -25,13 +24,13 @@ returns c =
     let c₈ = c₇ .before .before in
     let a = c₈ .before .before .args in
     let l = line-at (now (a .text)) (a .at) in
-    let r₇ = row-on largest-number (row close-line ")") [] l (no-rows largest-number l (c₈ .no-form .ensures)) (c₇ .row .ensures) in
-    let r₆ = row-on largest-number (row budget-line "(moves #)") _ l r₇ (c₆ .row2 .ensures) in
-    let r₅ = row-on largest-number (row start-line "(from #)") _ l r₆ (c₅ .row3 .ensures) in
-    let r₄ = row-on largest-number (row level-line "(level # #)") _ l r₅ (c₄ .row4 .ensures) in
-    let r₃ = row-on largest-number (row forbidden-line "(not #)") _ l r₄ (c₃ .row5 .ensures) in
-    let r₂ = row-on largest-number (row required-line "(need #)") _ l r₃ (c₂ .row6 .ensures) in
-    let r₁ = row-on largest-number (row open-line "(ask") _ l r₂ (c₁ .row7 .ensures) in
+    let r₇ = row-on largest-number l (row close-line ")") [] (no-rows largest-number l (c₈ .no-form .ensures)) (c₇ .row .ensures) in
+    let r₆ = row-on largest-number l (row budget-line "(moves #)") _ r₇ (c₆ .row2 .ensures) in
+    let r₅ = row-on largest-number l (row start-line "(from #)") _ r₆ (c₅ .row3 .ensures) in
+    let r₄ = row-on largest-number l (row level-line "(level # #)") _ r₅ (c₄ .row4 .ensures) in
+    let r₃ = row-on largest-number l (row forbidden-line "(not #)") _ r₄ (c₃ .row5 .ensures) in
+    let r₂ = row-on largest-number l (row required-line "(need #)") _ r₃ (c₂ .row6 .ensures) in
+    let r₁ = row-on largest-number l (row open-line "(ask") _ r₂ (c₁ .row7 .ensures) in
     found-is largest-number rows (now (a .text)) (a .at) r₁ (c .line-at .ensures .0) (c .line-at .ensures .1)
 
 pub line-at-spec : {M : Type 1} → statement M
