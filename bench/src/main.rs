@@ -1,21 +1,27 @@
 //! Times the proved search beside plain Rust and other ways to the same listing, and writes docs/BENCHMARK.md.
 //!
-//! `bench` times; `bench quick` shows rough figures and writes nothing; `bench count common` and `bench count any` make each
-//! call a fixed number of times, for callgrind to count instructions.
+//! `bench` times; `bench quick` shows rough figures and writes nothing, `bench read` those of reading alone; `bench count common`,
+//! `bench count any` and `bench count read` make each call a fixed number of times, for callgrind to count instructions.
 #[allow(dead_code)]
 #[path = "../../tests/outside/src/ffi.rs"]
 mod ffi;
+mod lines;
 #[allow(dead_code)]
 #[path = "../../tests/outside/src/paper.rs"]
 mod paper;
 mod plain;
+mod plant_reader;
 mod plants;
+mod query_reader;
 #[allow(dead_code)]
 #[path = "../../tests/outside/src/random.rs"]
 mod random;
+mod reading;
 mod report;
+mod respond;
 mod roaring;
 mod sqlite;
+mod texts;
 mod time;
 mod unshared;
 mod ways;
@@ -186,17 +192,23 @@ fn count(common: bool) {
 fn main() {
     let words: Vec<String> = std::env::args().skip(1).collect();
     let words: Vec<&str> = words.iter().map(String::as_str).collect();
-    let (mission, limits) = match words[..] {
+    let (mission, limits, readings) = match words[..] {
         ["count", "common"] => return count(true),
         ["count", "any"] => return count(false),
+        ["count", "read"] => return reading::count(MISSION),
+        ["read"] => return print!("{}", report::reading(MISSION, &reading::measure(MISSION, 60))),
         ["quick"] => {
-            (Effort { queries: 10, passes: 4, whole: 25, steps: 25 }, Effort { queries: 4, passes: 3, whole: 1, steps: 30 })
+            (Effort { queries: 10, passes: 4, whole: 25, steps: 25 }, Effort { queries: 4, passes: 3, whole: 1, steps: 30 }, 20)
         }
-        [] => (Effort { queries: 40, passes: 10, whole: 25, steps: 40 }, Effort { queries: 12, passes: 5, whole: 2, steps: 30 }),
-        _ => panic!("usage: bench [quick | count common | count any]"),
+        [] => {
+            let limits = Effort { queries: 12, passes: 5, whole: 2, steps: 30 };
+            (Effort { queries: 40, passes: 10, whole: 25, steps: 40 }, limits, 200)
+        }
+        _ => panic!("usage: bench [quick | read | count common | count any | count read]"),
     };
     let measured = [measure("the mission's size", MISSION, mission), measure("the limits", LIMITS, limits)];
-    let text = report::whole(&measured, &growth(), &skips());
+    let reading = reading::measure(MISSION, readings);
+    let text = report::whole(&measured, &reading, &growth(), &skips());
     print!("{text}");
     if words.is_empty() {
         std::fs::write(concat!(env!("CARGO_MANIFEST_DIR"), "/../docs/BENCHMARK.md"), &text).unwrap();

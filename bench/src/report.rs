@@ -1,10 +1,11 @@
 //! The page that a run writes.
 use crate::plants::Size;
+use crate::reading::{Pair, Reading};
 use crate::time::Times;
-use crate::{Growth, Measured, Row, Skip};
+use crate::{Growth, Measured, Row, Skip, MISSION};
 use std::fmt::Write;
 
-/// The most that a call or a check may take, in times of the plain one.
+/// The most that a call, a check or a reading may take, in times of the plain one.
 const MOST: f64 = 1.1;
 /// The most that a check may take, in times of the plain one in two passes.
 const MOST_OF_TWO_PASSES: f64 = 0.75;
@@ -163,6 +164,35 @@ fn sharing(m: &Measured) -> String {
     out
 }
 
+/// Reading and the whole job, proved against plain, and beside a pass over the bytes.
+pub fn reading(of: Size, r: &Reading) -> String {
+    let mut out = String::from("\n## Reading, and the whole job\n\n");
+    let (plant, query) = (commas(r.plant_bytes), r.query_bytes);
+    writeln!(out, "At the mission's size: {}. A plant text has {plant} bytes, a query text {query}.", size(of)).unwrap();
+    out += &head(&["", "plain µs", "proved µs", "proved / plain"]);
+    for (name, Pair { plain, proved }) in [
+        ("reading a plant", r.plant),
+        ("reading a query", r.query),
+        ("the whole job: `respond`", r.respond),
+        ("the whole job, plain without its check", Pair { plain: r.unchecked, ..r.respond }),
+    ] {
+        writeln!(out, "| {name} | {} | {} | **{:.2}** |", micro(plain), micro(proved), proved / plain).unwrap();
+    }
+    out += "\nOne pass over the bytes of the plant text that counts line feeds, in one byte after the other:\n";
+    out += &head(&["pass", "reading, plain / pass", "reading, proved / pass", "`respond`, proved / pass"]);
+    let ratios = [r.plant.plain, r.plant.proved, r.respond.proved].map(|s| format!("{:.2}", s / r.pass)).join(" | ");
+    writeln!(out, "| {} µs | {ratios} |", micro(r.pass)).unwrap();
+    out
+}
+
+fn reading_goal(r: &Reading) -> String {
+    let mut out = String::from("\n### Goal for reading\n");
+    out += &head(&["at the mission's size", "ratio", "at most", "goal"]);
+    let ratio = r.plant.proved / r.plant.plain;
+    writeln!(out, "| reading a plant, proved / plain | {ratio:.2} | {MOST:.2} | {} |", met(ratio, MOST)).unwrap();
+    out
+}
+
 fn tables_grow(growth: &[Growth]) -> String {
     let mut out = String::from("\n## The check grows with the tables\n");
     out += &head(&["tables", "plain µs", "proved µs", "proved / plain", "proved, ns for each device and posting"]);
@@ -186,10 +216,11 @@ fn moves_skip(skips: &[Skip]) -> String {
     out
 }
 
-pub fn whole(measured: &[Measured], growth: &[Growth], skips: &[Skip]) -> String {
+pub fn whole(measured: &[Measured], read: &Reading, growth: &[Growth], skips: &[Skip]) -> String {
     let all = |each: fn(&Measured) -> String| measured.iter().map(each).collect::<String>();
     let mut out = String::from(include_str!("../before.md"));
     out += &all(figures);
+    out += &reading(MISSION, read);
     out += &tables_grow(growth);
     out += &moves_skip(skips);
     out += "\n## Sharing: the figures of document 000\n\n";
@@ -197,7 +228,7 @@ pub fn whole(measured: &[Measured], growth: &[Growth], skips: &[Skip]) -> String
     out += "join. Each row has the moves of all its queries together.\n";
     out += &all(sharing);
     out += "\n";
-    let goals = all(goals) + &growing(growth, skips);
+    let goals = all(goals) + &reading_goal(read) + &growing(growth, skips);
     out += &include_str!("../after.md").replace("{goals}", goals.trim());
     out
 }

@@ -128,7 +128,11 @@ pub fn read_query(text: &[u8]) -> ReadQuery {
 /// How many bytes the response has, and the whole lent array, which held 0xee everywhere.
 pub fn respond(plant: &[u8], query: &[u8]) -> (usize, Vec<u8>) {
     let mut out = vec![0xee; 16384];
-    let room: &mut [u8; 16384] = out.as_mut_slice().try_into().unwrap();
-    let length = unsafe { plant_search_respond(plant.as_ptr(), plant.len(), query.as_ptr(), query.len(), room) };
+    let length = respond_into(plant, query, out.as_mut_slice().try_into().unwrap());
     (length, out)
+}
+
+/// How many bytes the response has, at the front of what is lent.
+pub fn respond_into(plant: &[u8], query: &[u8], out: &mut [u8; 16384]) -> usize {
+    unsafe { plant_search_respond(plant.as_ptr(), plant.len(), query.as_ptr(), query.len(), out) }
 }

@@ -5,9 +5,9 @@ use mathlib.Core.Path.{_≡_, _∙_}
 use lib.ListN.{length, length-take, length-drop}
 use native.Mathlib.Omega.{arith}
 use borrow.Rule.Slice.PartMut.{same-len-mid}
-use Rattle.plant_search.proofs.Inputs.{bounded}
-use Rattle.plant_search.proofs.read_all.Statement.{statement}
-use Rattle.plant_search.proofs.read_all.Tie as tie
+use Rattle.program.proofs.Inputs.{bounded}
+use Rattle.program.proofs.read_all.Statement.{statement}
+use Rattle.program.proofs.read_all.Tie as tie
 
 abbrev Inv-loop : tie.InvT-loop
 Inv-loop fd buffer₀ done₀ buffer done = (done ≤ length buffer) × (length buffer ≡ length buffer₀)

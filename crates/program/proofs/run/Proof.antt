@@ -1,10 +1,10 @@
--- `main` is safe: what was read of each input lies within its buffer.
+-- `run` is safe: what was read of each input lies within its buffer.
 use native.Mathlib.Omega.{arith}
 use lib.ListN.{length-take}
 use borrow.Author.Needs.{needs}
-use Rattle.plant_search.proofs.Inputs.{bounded}
-use Rattle.plant_search.proofs.main.Statement.{statement}
-use Rattle.plant_search.proofs.main.Tie as tie
+use Rattle.program.proofs.Inputs.{bounded}
+use Rattle.program.proofs.run.Statement.{statement}
+use Rattle.program.proofs.run.Tie as tie
 
 array-share-prefix-plant : tie.Need-array-share-prefix-plant
 array-share-prefix-plant c =
@@ -13,11 +13,12 @@ array-share-prefix-plant c =
 
 array-share-prefix-query : tie.Need-array-share-prefix-query
 array-share-prefix-query c =
-    let read = c .before .before .before .before .before .before .before .before .before .before .before .before .read-all in
-    omega (arith, bounded _ _ _ (read .ensures) (c .before .before .before .before .before .before .before .before .before .q .given .1), read .kept .1 .0)
+    let query = c .before .before .before .before .before .before .before .before in
+    let read = query .before .before .before .read-all in
+    omega (arith, bounded _ _ _ (read .ensures) (query .q .given .1), read .kept .1 .0)
 
-pub main-spec : {M : Type 1} → statement M
-main-spec =
+pub run-spec : {M : Type 1} → statement M
+run-spec =
     tie.close
     (tie.spec
     (λ c. search needs)
@@ -25,7 +26,6 @@ main-spec =
     (λ c. search needs)
     (λ c. search needs)
     (λ c κs. search needs)
-    (λ c. search needs)
     (λ c. search needs)
     (λ c. search needs)
     (λ c κs. search needs)

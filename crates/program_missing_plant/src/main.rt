@@ -1,0 +1,4 @@
+// The program where there is no plant.txt.
+fn main() {
+    program::run(libc::STDIN_FILENO, b"plant.txt");
+}
