@@ -19,16 +19,16 @@ pub struct NumberAt {
 
 // Whether a line fits a pattern, with its last number and the one before it.
 pub struct Fit {
-    pub fits: bool,
     pub before: u64,
     pub number: u64,
+    pub fits: bool,
 }
 
 // The kind of a line, with its last number and the one before it.
 pub struct Form {
-    pub kind: u32,
     pub before: u64,
     pub number: u64,
+    pub kind: u32,
 }
 
 // A line's form, and where the next line begins.
@@ -39,10 +39,10 @@ pub struct Found {
 
 // A line that fits a pattern so far: the numbers that it has had, and where it goes on.
 struct Scan {
-    fits: bool,
     before: u64,
     number: u64,
     at: usize,
+    fits: bool,
 }
 
 // Whether the text goes on as `word` from `at` on. A position past the end counts as the end, here and below.
