@@ -1,7 +1,7 @@
 -- Tables of refusals, one after another.
 use Prim.Native.Nat.{ℕ, zero, suc}
 use mathlib.Core.Path.{_≡_, refl}
-use mathlib.Core.Bool.{Bool, true, false}
+use mathlib.Core.Bool.{Bool, true, false, _||_}
 use native.Mathlib.Omega.{arith}
 use Rattle.laws.specs.Rows.{pick, otherwise}
 
@@ -23,3 +23,8 @@ otherwise-none (suc n) rest h = absurd (omega arith)
 pub pick-none : (b : Bool) (n rest : ℕ) → pick b (suc n) rest ≡ 0 → (b ≡ false) × (rest ≡ 0)
 pick-none true n rest h = absurd (omega arith)
 pick-none false n rest h = (refl, h)
+
+-- a row of two tests
+pub pick-or : (a b : Bool) (n m : ℕ) → pick (a || b) n m ≡ pick a n (pick b n m)
+pick-or true b n m = refl
+pick-or false b n m = refl

@@ -1,6 +1,5 @@
 -- Laws of plant text.
-pub mod Lexing
-pub mod Reading
+mod Reading
 mod Nesting
 mod Clearing
 mod Posts

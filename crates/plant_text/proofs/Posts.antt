@@ -1,7 +1,7 @@
 -- Laws of the reader of postings.
 use Prim.Native.Nat.{ℕ, _+_, _-_, _<_, _≤_}
 use mathlib.Core.Path.{_≡_, refl, sym, ap, _∙_}
-use mathlib.Core.Bool.{Bool, true, false, _||_}
+use mathlib.Core.Bool.{Bool, true, false, not, _||_}
 use mathlib.Core.List.{List, [], _∷_, _++_}
 use native.Mathlib.Numerals.{add-one}
 use native.Mathlib.Omega.{arith}
@@ -12,21 +12,22 @@ use Rattle.laws.specs.Rows.{pick}
 use Rattle.laws.specs.Tables.{entry}
 use Rattle.laws.specs.inner.Entries.{IsEntry}
 use Rattle.laws.proofs.Rows.{pick-none}
-use Rattle.laws.proofs.Tests.{flags}
+use Rattle.laws.proofs.Tests.{flags, not-yes, not-no}
 use Rattle.laws.proofs.Cases.{either}
+use Rattle.plant.specs.Plant.{size}
 use Rattle.index.specs.Postings.{device, shared, reach, shadowed}
 use Rattle.index.specs.inner.Lists.{SoundList}
+use Rattle.text.specs.Forms.{unfinished, found-at}
 use Rattle.text.specs.Reading.{Read, no}
-use Rattle.plant_text.specs.PlantText.{State, postings, terms, current, posting, line-refusal, next}
-use Rattle.plant_text.specs.inner.Rest.{from-form, Lexed, ReadingAt, posting-of, end-refusal}
-use Rattle.plant_text.specs.inner.Terms.{Before, posts-made, Adds, from-posting, SamePosts, PostsAt}
+use Rattle.text.specs.declared.Found.{Found}
+use Rattle.plant_text.specs.Form.{all-line, close-line, rows, is-posting}
+use Rattle.plant_text.specs.PlantText.{State, postings, terms, current, posting, add-posting, line-refusal, next}
+use Rattle.plant_text.specs.inner.Rest.{from-form, with-number, highest-known, line-after, ReadingAt, end-refusal}
+use Rattle.plant_text.specs.inner.Terms.{Before, posts-made, Adds, from-posting, SamePosts, PostsStart, PostsAt}
 use Rattle.plant_text.specs.declared.Room.{Room}
-use Rattle.plant_text.specs.declared.lines.Form.{Form}
-use Rattle.plant_text.specs.declared.lines.Form.the-variants.{Plant, Device, Term, Posting, Close, Other, Unfinished}
-use Rattle.plant_text.specs.declared.lines.Posted.{Posted}
-use Rattle.plant_text.specs.declared.lines.Posted.the-variants.{Here, Nothing}
-use Rattle.plant_text.proofs.Reading.{form-refused, form-taken, reading-form, lexed-moves, next-line, is-posting, is-closing, finished}
-use Rattle.plant_text.proofs.Lists.{device-of, empty-entry, sound-none, newest-entry, shadowed-newest, sound-more}
+use Rattle.plant_text.specs.declared.lines.Place.{Place}
+use Rattle.plant_text.proofs.Reading.{more-at, form-refused, form-taken, reading-form, found-moves, next-line, past-line, at-kind, posting-kinds, is-closing, not-ended}
+use Rattle.index.proofs.Growing.{device-of, empty-entry, sound-none, newest-entry, shadowed-newest, sound-more}
 
 -- the newest posting of a list, or 0
 module _ (posts : List ℕ) (begin n : ℕ) (k : n ≤ length posts) where
@@ -50,6 +51,26 @@ in-range : (d count : ℕ) → (eqb d 0 || ltb count d) ≡ false → (1 ≤ d) 
 in-range d count h =
     either (eqb d 0) (λ p. let z : true ≡ false = rw p at h in let o : _≡_ {A = ℕ} 0 1 = cc in absurd (omega arith))
     (λ p. let z : ltb count d ≡ false = rw p at h in (omega flags, omega flags))
+
+-- a posting's line, of either kind
+abbrev posting-refusal : Room → State → ℕ → ℕ
+posting-refusal r m d =
+    pick (eqb d 0 || ltb (size (m .plant)) d) 22
+    (pick (leb (r .postings) (length (m .index .postings))) 27
+    (pick (leb d (device (entry (current m) (length (current m))))) 28
+    (pick (shadowed (m .plant .last) (current m) d) 29
+    0)))
+
+module _ (r : Room) (m : State) (posts : List ℕ) (n d kind : ℕ) (e : is-posting kind ≡ true) where
+  posting-rows : line-refusal r (posts-made m posts n postings) (with-number kind d) ≡ posting-refusal r (posts-made m posts n postings) d
+  unfolding line-refusal
+  posting-rows =
+      posting-kinds (λ k. line-refusal r (posts-made m posts n postings) (with-number k d) ≡ posting-refusal r (posts-made m posts n postings) d) kind e refl refl
+
+  posting-next : next (posts-made m posts n postings) (with-number kind d) ≡ add-posting (posts-made m posts n postings) d (eqb kind all-line)
+  unfolding next
+  posting-next =
+      posting-kinds (λ k. next (posts-made m posts n postings) (with-number k d) ≡ add-posting (posts-made m posts n postings) d (eqb k all-line)) kind e refl refl
 
 module _ (r : Room) (last posts : List ℕ) (count begin n : ℕ) {q : ℕ} (hc : count ≤ length last) (hb : begin ≤ n) (hn : n ≤ r .postings) (hp : r .postings ≤ length posts)
     (sound : SoundList (take count last) (slice begin n posts)) (eq : q ≡ entry (slice begin n posts) (n - begin)) where
@@ -79,16 +100,6 @@ module _ (r : Room) (last posts : List ℕ) (count begin n : ℕ) {q : ℕ} (hc 
     shadow-is a u =
         shadowed-newest (take count last) (slice begin n posts) sound d a (rw (← newest) u) ∙ rw (← newest, ← far-is)
 
-    rows : (s : Bool) (m : State) → Before last count begin m → line-refusal r (posts-made m posts n postings) (Posting d s) ≡ x
-    unfolding line-refusal
-    rows s m b =
-        rw (current-is m b, b .lasts, length-take-le count last hc, length-take-le n posts (omega arith), ← newest)
-        (same-rows (eqb d 0 || ltb count d) (leb (r .postings) n) (leb d (device q)) (shadowed (take count last) (slice begin n posts) d) (leb d far)
-        (λ p t. shadow-is (in-range d count p .0) (omega (flags, t))) ∙ sym ex)
-
-    pub post-refused : (s : Bool) → (x ≡ 0 → ⊥) → Adds r last posts count begin n d s posts x
-    post-refused s g = record { refusal-is = rows s; adds = λ z. absurd (g z); fits = hp; holds = λ z. absurd (g z); sound = λ z. absurd (g z) }
-
     pub post-fits : x ≡ 0 → (1 ≤ d) × (d ≤ count) × (n < r .postings) × (device q < d) × (far < d)
     post-fits z =
         let a = pick-none (eqb d 0 || ltb count d) 21 _ (sym ex ∙ z) in
@@ -101,123 +112,135 @@ module _ (r : Room) (last posts : List ℕ) (count begin n : ℕ) {q : ℕ} (hc 
     longer : (v : ℕ) → n < length posts → slice begin (n + 1) (set posts n v) ≡ slice begin n posts ++ (v ∷ [])
     longer v h = rw (add-one n, take-suc-set posts n v, drop-append-le begin (take n posts) (v ∷ []) (omega (arith, length-take-le n posts (omega arith))))
 
-    pub post-added : {v : ℕ} (s : Bool) → x ≡ 0 → v ≡ posting d s → Adds r last posts count begin n d s (set posts n v) 0
-    unfolding next
-    post-added {v} s z ev =
-        let g = post-fits z in
-        let i : n < length posts = omega arith in
-        let dv : device v ≡ d = rw ev (device-of d s) in
-        record {
-          refusal-is = λ m b. rows s m b ∙ z;
-          adds = λ _ m. rw (add-one n, take-suc-set posts n v, ev);
-          fits = simp length-set hp;
-          holds = λ _. omega arith;
-          sound = λ _. rw (longer v i)
-              (sound-more (take count last) (slice begin n posts) sound v (omega arith) (omega (arith, length-take-le count last hc)) (rw (← newest) (omega arith))
-              (rw dv (shadow-is (g .0) (g .3) ∙ omega (flags, g .4))));
-        }
+    module _ (kind : ℕ) (p : is-posting kind ≡ true) where
+      refusal-is : (m : State) → Before last count begin m → line-refusal r (posts-made m posts n postings) (with-number kind d) ≡ x
+      refusal-is m b =
+          posting-rows r m posts n d kind p
+          ∙ rw (current-is m b, b .lasts, length-take-le count last hc, length-take-le n posts (omega arith), ← newest)
+          (same-rows (eqb d 0 || ltb count d) (leb (r .postings) n) (leb d (device q)) (shadowed (take count last) (slice begin n posts) d) (leb d far)
+          (λ i t. shadow-is (in-range d count i .0) (omega (flags, t))) ∙ sym ex)
 
--- a form that is no posting and does not end a term is refused within one
-not-posting : (r : Room) (m : State) (posts : List ℕ) (n : ℕ) (f : Form) → posting-of f ≡ Nothing → (end-refusal 2 f ≡ 0 → ⊥) →
-    line-refusal r (posts-made m posts n postings) f ≡ end-refusal 2 f
-unfolding line-refusal
-not-posting r m posts n Plant e h = refl
-not-posting r m posts n (Device k) e h = refl
-not-posting r m posts n (Term k) e h = refl
-not-posting r m posts n (Posting d s) e h = cc
-not-posting r m posts n Close e h = absurd (h refl)
-not-posting r m posts n Other e h = refl
-not-posting r m posts n Unfinished e h = refl
+      pub post-refused : (x ≡ 0 → ⊥) → Adds r last posts count begin n kind d posts x
+      post-refused g = record { refusal-is = refusal-is; adds = λ z. absurd (g z); fits = hp; holds = λ z. absurd (g z); sound = λ z. absurd (g z) }
 
-pub posts-start : {r : Room} {t last posts : List ℕ} {at k count begin : ℕ} → ReadingAt t at k begin → count < at → count ≤ length last → begin ≤ r .postings →
-    r .postings ≤ length posts → PostsAt r t last count begin (from-posting r t postings posts at k begin) at postings posts at k begin
-posts-start {r} {t} {last} {posts} {at} {k} {count} {begin} s c l h p = record {
+      pub post-added : {v : ℕ} → x ≡ 0 → v ≡ posting d (eqb kind all-line) → Adds r last posts count begin n kind d (set posts n v) 0
+      post-added {v} z ev =
+          let g = post-fits z in
+          let i : n < length posts = omega arith in
+          let dv : device v ≡ d = rw ev (device-of d (eqb kind all-line)) in
+          record {
+            refusal-is = λ m b. refusal-is m b ∙ z;
+            adds = λ _ m. posting-next r m posts n d kind p ∙ rw (add-one n, take-suc-set posts n v, ev);
+            fits = simp length-set hp;
+            holds = λ _. omega arith;
+            sound = λ _. rw (longer v i)
+                (sound-more (take count last) (slice begin n posts) sound v (omega arith) (omega (arith, length-take-le count last hc)) (rw (← newest) (omega arith))
+                (rw dv (shadow-is (g .0) (g .3) ∙ omega (flags, g .4))));
+          }
+
+-- a list of postings, where it begins
+pub posts-start : {r : Room} {t last posts : List ℕ} {count : ℕ} {p : Place} → PostsStart r t last posts count p →
+    PostsAt r t last count (p .count) (from-posting r t postings posts p) (p .at) postings posts p
+posts-start {r} {t} {last} {posts} {count} {p} s = record {
   reads = record { same = λ m b. refl };
-  at-line = s;
-  counted = c;
-  lasts = l;
+  start = s;
   more = omega arith;
-  fits = p;
-  holds = h;
   onward = omega arith;
-  sound = sound-none (take count last) (slice begin begin posts) (omega (arith, length-slice begin begin posts (omega arith)));
+  sound = sound-none (take count last) (slice (p .count) (p .count) posts) (omega (arith, length-slice (p .count) (p .count) posts (omega (arith, s .holds, s .fits))));
 }
 
-module _ {r : Room} {t last posts : List ℕ} {count begin since a k n nxt : ℕ} {A : State → Read State} {f : Form} {v : Posted}
-    (e : PostsAt r t last count begin A since postings posts a k n) (x : Lexed t a f nxt) (q : v ≡ posting-of f) where
-  up-to-line : SamePosts last count begin A (λ m. from-form r (posts-made m posts n postings) f k (drop nxt t))
+-- a list of postings that has been read up to a place, and the line there
+module _ {r : Room} {t last posts : List ℕ} {count begin since : ℕ} {p : Place} {A : State → Read State} {g : Found} {v : Bool}
+    (e : PostsAt r t last count begin A since postings posts p) (x : g ≡ found-at highest-known rows t (p .at)) (q : v ≡ is-posting (g .form .kind)) where
+  up-to-line : SamePosts last count begin A (λ m. from-form r (posts-made m posts (p .count) postings) (g .form) (p .line) (drop (g .next) t))
   up-to-line = record {
     same = λ m b.
         e .reads .same m b
-        ∙ reading-form x r (posts-made m posts n postings) k
-        (omega (arith, ap length (b .lasts), length-take-le count last (e .lasts), e .counted, e .at-line .within, e .at-line .fits)) refl;
+        ∙ reading-form t (p .at) x r (posts-made m posts (p .count) postings) (p .line)
+        (omega (arith, ap length (b .lasts), length-take-le count last (e .start .lasts), e .start .devices, e .start .bounded .devices)) refl;
   }
 
-  module _ (w : v ≡ Nothing) {y : ℕ} (u : y ≡ end-refusal 2 f) where
-    pub posts-refused : (y ≡ 0 → ⊥) → SamePosts last count begin A (λ m. no y k)
+  -- the line is whole
+  past : (g .form .kind ≡ unfinished → ⊥) → ReadingAt t (g .next) (p .line + 1)
+  past h =
+      let s = next-line t (p .at) x (e .start .at-line) in
+      record { fits = s .fits; within = s .within; lined = omega (arith, past-line t (p .at) x (e .start .at-line) h) }
+
+  module _ (w : not v ≡ true) {y : ℕ} (u : y ≡ end-refusal 2 (g .form .kind)) where
+    pub posts-refused : (y ≡ 0 → ⊥) → SamePosts last count begin A (λ m. no y (p .line))
     posts-refused h = record {
       same = λ m b.
           up-to-line .same m b
-          ∙ form-refused r (posts-made m posts n postings) k (drop nxt t) f y (not-posting r m posts n f (sym q ∙ w) (λ z. h (u ∙ z)) ∙ sym u) h;
+          ∙ form-refused r (posts-made m posts (p .count) postings) (p .line) (drop (g .next) t) (g .form) y
+          (not-ended r (posts-made m posts (p .count) postings) (g .form) 2 refl (λ i. omega arith) (λ z. h (u ∙ z)) (λ c. rw (← q, not-yes v .0 w, c)) ∙ sym u) h;
     }
 
     module _ (z : y ≡ 0) where
-      closes : f ≡ Close
-      closes = is-closing 2 f (sym u ∙ z)
+      closes : g .form .kind ≡ close-line
+      closes = is-closing 2 (g .form .kind) (sym u ∙ z)
 
-      pub ending-at-line : ReadingAt t nxt (k + 1) n
-      ending-at-line = next-line (e .at-line) x (finished closes refl) n (omega arith)
-
-      pub posts-ended : PostsAt r t last count begin A (since + 1) terms posts nxt (k + 1) n
+      pub posts-ended : PostsAt r t last count begin A (since + 1) terms posts (line-after p (g .next))
       unfolding line-refusal next
-      posts-ended =
-          let m = lexed-moves x (finished closes refl) in
-          record {
-            reads = record {
-              same = λ m b. up-to-line .same m b ∙ rw closes (form-taken r (posts-made m posts n postings) k (drop nxt t) Close refl refl);
-            };
-            at-line = ending-at-line;
-            counted = omega (arith, e .counted);
-            lasts = e .lasts;
-            more = e .more;
-            fits = e .fits;
-            holds = e .holds;
-            onward = omega (arith, e .onward);
-            sound = e .sound;
-          }
-
-  module _ {d : ℕ} {s : Bool} (w : v ≡ Here d s) where
-    here : f ≡ Posting d s
-    here = is-posting f (sym q ∙ w)
-
-    pub posting-at-line : ReadingAt t nxt (k + 1) (n + 1)
-    posting-at-line = next-line (e .at-line) x (finished here refl) (n + 1) (omega arith)
-
-    pub posting-moves : (a < nxt) × (nxt ≤ length t)
-    posting-moves = (lexed-moves x (finished here refl), x .within)
-
-    module _ {posts′ : List ℕ} {y : ℕ} (ad : Adds r last posts count begin n d s posts′ y) where
-      pub posting-refused : (y ≡ 0 → ⊥) → SamePosts last count begin A (λ m. no y k)
-      posting-refused h = record {
-        same = λ m b.
-            up-to-line .same m b ∙ rw here (form-refused r (posts-made m posts n postings) k (drop nxt t) (Posting d s) y (ad .refusal-is m b) h);
+      posts-ended = record {
+        reads = record {
+          same = λ m b.
+              up-to-line .same m b
+              ∙ at-kind r (posts-made m posts (p .count) postings) (p .line) (drop (g .next) t) (g .form) closes
+              ∙ form-taken r (posts-made m posts (p .count) postings) (p .line) (drop (g .next) t) (with-number close-line (g .form .number)) refl refl;
+        };
+        start = let s = e .start in record {
+          at-line = past (λ i. omega (arith, closes));
+          bounded = s .bounded;
+          devices = s .devices;
+          lasts = s .lasts;
+          fits = s .fits;
+          holds = s .holds;
+        };
+        more = e .more;
+        onward = omega (arith, e .onward, found-moves t (p .at) x (λ i. omega (arith, closes)));
+        sound = e .sound;
       }
 
-      pub posting-added : y ≡ 0 → PostsAt r t last count begin A since postings posts′ nxt (k + 1) (n + 1)
-      posting-added z =
-          let m = posting-moves in
-          record {
-            reads = record {
-              same = λ m b.
-                  up-to-line .same m b
-                  ∙ rw here (form-taken r (posts-made m posts n postings) k (drop nxt t) (Posting d s) (ad .refusal-is m b ∙ z) (ad .adds z m));
-            };
-            at-line = posting-at-line;
-            counted = omega (arith, e .counted);
-            lasts = e .lasts;
-            more = omega (arith, e .more);
-            fits = ad .fits;
-            holds = ad .holds z;
-            onward = omega (arith, e .onward);
-            sound = ad .sound z;
-          }
+  module _ (w : not v ≡ false) where
+    pub posting-here : is-posting (g .form .kind) ≡ true
+    posting-here = sym q ∙ not-no v .0 w
+
+    whole : g .form .kind ≡ unfinished → ⊥
+    whole = posting-kinds (λ k. k ≡ unfinished → ⊥) (g .form .kind) posting-here (λ i. omega arith) (λ i. omega arith)
+
+    pub posting-moves : (p .at < g .next) × (g .next ≤ length t)
+    posting-moves = (found-moves t (p .at) x whole, next-line t (p .at) x (e .start .at-line) .within)
+
+    module _ {posts′ : List ℕ} {y : ℕ} (ad : Adds r last posts count begin (p .count) (g .form .kind) (g .form .number) posts′ y) where
+      at-posting : SamePosts last count begin A
+          (λ m. from-form r (posts-made m posts (p .count) postings) (with-number (g .form .kind) (g .form .number)) (p .line) (drop (g .next) t))
+      at-posting = record {
+        same = λ m b. up-to-line .same m b ∙ at-kind r (posts-made m posts (p .count) postings) (p .line) (drop (g .next) t) (g .form) refl;
+      }
+
+      pub posting-refused : (y ≡ 0 → ⊥) → SamePosts last count begin A (λ m. no y (p .line))
+      posting-refused h = record {
+        same = λ m b.
+            at-posting .same m b
+            ∙ form-refused r (posts-made m posts (p .count) postings) (p .line) (drop (g .next) t) (with-number (g .form .kind) (g .form .number)) y (ad .refusal-is m b) h;
+      }
+
+      pub posting-added : y ≡ 0 → PostsAt r t last count begin A since postings posts′ (more-at p (g .next))
+      posting-added z = record {
+        reads = record {
+          same = λ m b.
+              at-posting .same m b
+              ∙ form-taken r (posts-made m posts (p .count) postings) (p .line) (drop (g .next) t) (with-number (g .form .kind) (g .form .number)) (ad .refusal-is m b ∙ z) (ad .adds z m);
+        };
+        start = let s = e .start in record {
+          at-line = past whole;
+          bounded = s .bounded;
+          devices = s .devices;
+          lasts = s .lasts;
+          fits = ad .fits;
+          holds = ad .holds z;
+        };
+        more = omega (arith, e .more);
+        onward = omega (arith, e .onward, posting-moves);
+        sound = ad .sound z;
+      }

@@ -1,26 +1,40 @@
--- Laws of reading: what a line that is refused or taken leaves, and what the code's form of a line says of the reading.
-use Prim.Native.Nat.{ℕ, _+_, _<_, _≤_, min}
-use mathlib.Core.Path.{_≡_, refl, sym, _∙_}
-use mathlib.Core.Bool.{Bool, true, false, not, _||_, _&&_, true≢false}
+-- Laws of reading: what a line that is refused or taken leaves, and what the line that the code finds says of the reading.
+use Prim.Native.Nat.{ℕ, _+_, _<_, _≤_}
+use mathlib.Core.Path.{_≡_, refl, sym, ap, _∙_, subst}
+use mathlib.Core.Bool.{Bool, true, false, cond, not, true≢false}
 use mathlib.Core.List.{List}
 use native.Mathlib.Omega.{arith}
-use borrow.Author.Tests.{lt-ltb, ne-eqb}
+use borrow.Author.Tests.{lt-ltb, ne-eqb, eqb-true}
+use lib.Dec.{eqb}
 use lib.ListN.{length, drop}
 use Rattle.laws.specs.Rows.{pick}
-use Rattle.laws.proofs.Cases.{by-order}
+use Rattle.laws.proofs.Cases.{either}
+use Rattle.laws.proofs.Rows.{pick-none}
+use Rattle.laws.proofs.Tests.{refuted, not-no}
 use Rattle.plant.specs.Plant.{size}
-use Rattle.text.specs.Lines.{line-at}
-use Rattle.text.specs.Reading.{no}
-use Rattle.text.proofs.Decimal.{by-cap}
+use Rattle.text.specs.Lines.{next-at}
+use Rattle.text.specs.Decimal.{up-to}
+use Rattle.text.specs.Forms.{unfinished, plain, capped-form, form-at, found-at}
+use Rattle.text.specs.Reading.{Step, refused, no, unless, and-then}
+use Rattle.text.specs.declared.Form.{Form}
+use Rattle.text.specs.declared.Found.{Found}
+use Rattle.text.proofs.Decimal.{capped-step}
+use Rattle.text.proofs.Lines.{next-within, next-onward, next-from}
+use Rattle.text.proofs.Forms.{whole-kind}
 use Rattle.text.proofs.Reading as texts
-use Rattle.plant_text.specs.Form.{form, is-unfinished}
-use Rattle.plant_text.specs.PlantText.{State, is, devices, terms, postings, closed, empty, line-refusal, next, line, end}
-use Rattle.plant_text.specs.inner.Rest.{from, from-form, capped-form, Lexed, ReadingAt, level-of, term-of, posting-of, end-refusal}
-use Rattle.text.specs.declared.Number.the-variants.{Value}
-use Rattle.plant_text.specs.declared.lines.Posted.the-variants.{Here}
+use Rattle.text.proofs.Reading.{Refuses}
+use Rattle.plant_text.specs.Form.{plant-line, device-line, term-line, own-line, all-line, close-line, rows, is-posting, numbered}
+use Rattle.plant_text.specs.PlantText.{State, is, closed, stands, misplaced, unopened, out-of-range, line-refusal, next, step}
+use Rattle.plant_text.specs.inner.Rest.{from, from-form, with-number, highest-known, ReadingAt, end-refusal}
 use Rattle.plant_text.specs.declared.Room.{Room}
-use Rattle.plant_text.specs.declared.lines.Form.{Form}
-use Rattle.plant_text.specs.declared.lines.Form.the-variants.{Plant, Device, Term, Posting, Close, Other, Unfinished}
+use Rattle.plant_text.specs.declared.lines.Place.{Place}
+
+-- the place once its line is found, where the next begins at an index; and once the line is read and has made one more
+abbrev pub past-at : Place → ℕ → Place
+past-at p at = record { at = at; line = p .line; count = p .count }
+
+abbrev pub more-at : Place → ℕ → Place
+more-at p at = record { at = at; line = p .line + 1; count = p .count + 1 }
 
 module _ (r : Room) (m : State) (k : ℕ) (s : List ℕ) where
   -- line k is refused, or taken
@@ -30,100 +44,128 @@ module _ (r : Room) (m : State) (k : ℕ) (s : List ℕ) where
   pub form-taken : (f : Form) {m′ : State} → line-refusal r m f ≡ 0 → next m f ≡ m′ → from-form r m f k s ≡ from r m′ (k + 1) s
   form-taken f e q = rw (e, q)
 
-  -- two forms that are refused by 25, 21 or 22, as where each may stand and none is in range
-  outside : (f g : Form) (a b : Bool) → line-refusal r m f ≡ pick a 25 (pick b 21 22) → line-refusal r m g ≡ pick a 25 (pick b 21 22) → from-form r m f k s ≡ from-form r m g k s
-  outside f g true b p q = rw (p, q)
-  outside f g false true p q = rw (p, q)
-  outside f g false false p q = rw (p, q)
+-- a line's kind, where it is known, and its number are all that reading asks
+of-kind : (r : Room) (m : State) (f : Form) {k : ℕ} → f .kind ≡ k → step r m f ≡ step r m (with-number k (f .number))
+unfolding line-refusal next
+of-kind r m f {k} e = subst (λ (j : ℕ). step r m f ≡ step r m (with-number j (f .number))) e refl
 
-  high-device : (n : ℕ) → 65535 < n → line-refusal r m (Device n) ≡ pick (is closed m) 25 (pick (not (is devices m)) 21 22)
+-- an unfinished line is refused
+pub unfinished-refused : (r : Room) → Refuses (step r)
+unfolding line-refusal
+unfinished-refused r = record { by = λ m. pick (is closed m) 25 24; refuses = λ m. go (is closed m) (next m (plain unfinished)) }
+  where
+    go : (b : Bool) (m′ : State) → unless (pick b 25 24) m′ ≡ refused (pick b 25 24)
+    go true m′ = refl
+    go false m′ = refl
+
+-- kinds without a number, and with one
+module _ (kind : ℕ) where
+  without : numbered true true true kind ≡ false → (eqb kind device-line ≡ false) × (eqb kind term-line ≡ false) × (is-posting kind ≡ false)
+  without e = go (eqb kind device-line) (eqb kind term-line) (is-posting kind) e
+    where
+      go : (d t p : Bool) → cond d true (cond t true (cond p true false)) ≡ false → (d ≡ false) × (t ≡ false) × (p ≡ false)
+      go true t p e = absurd (true≢false e)
+      go false true p e = absurd (true≢false e)
+      go false false true e = absurd (true≢false e)
+      go false false false e = (refl, refl, refl)
+
+  same-tests : {a b c a′ b′ c′ : Bool} → a ≡ a′ → b ≡ b′ → c ≡ c′ → numbered a b c kind ≡ numbered a′ b′ c′ kind
+  same-tests {a} {b} {c} {a′} {b′} {c′} p q s =
+      ap (λ (x : Bool). numbered x b c kind) p ∙ ap (λ (x : Bool). numbered a′ x c kind) q ∙ ap (λ (x : Bool). numbered a′ b′ x kind) s
+
+-- a number above 65,535 is refused as 65,536 is
+module _ (r : Room) (m : State) (z : size (m .plant) ≤ highest-known) (kind : ℕ) where
+  -- whatever rows come after 22
+  by-22 : (a b c d e : Bool) (x : ℕ) (m′ : State) → e ≡ true
+      → unless (pick a 25 (pick b 24 (pick c 21 (pick d 26 (pick e 22 x))))) m′ ≡ refused (pick a 25 (pick b 24 (pick c 21 (pick d 26 22))))
+  by-22 true b c d e x m′ q = refl
+  by-22 false true c d e x m′ q = refl
+  by-22 false false true d e x m′ q = refl
+  by-22 false false false true e x m′ q = refl
+  by-22 false false false false e x m′ q = rw q
+
+  high : numbered true true true kind ≡ true → (n : ℕ) → highest-known < n → step r m (with-number kind n)
+      ≡ refused (pick (is closed m) 25 (pick (eqb kind unfinished) 24 (pick (misplaced m (with-number kind 0)) 21 (pick (unopened m (with-number kind 0)) 26 22))))
   unfolding line-refusal
-  high-device n h = rw (lt-ltb 255 n (omega arith))
+  high e n h =
+      by-22 (is closed m) (eqb kind unfinished) (misplaced m (with-number kind n)) (unopened m (with-number kind n)) (out-of-range m (with-number kind n)) _ _
+      (same-tests kind (lt-ltb 255 n (omega arith)) (rw (ne-eqb n 0 (omega arith), lt-ltb 65535 n h)) (rw (ne-eqb n 0 (omega arith), lt-ltb (size (m .plant)) n (omega arith))) ∙ e)
 
-  high-term : (n : ℕ) → 65535 < n → line-refusal r m (Term n) ≡ pick (is closed m) 25 (pick (not (is terms m || (is devices m && empty (m .opened)))) 21 22)
-  unfolding line-refusal
-  high-term n h = rw (ne-eqb n 0 (omega arith), lt-ltb 65535 n h)
+  -- a line of another kind has no number
+  no-number : numbered true true true kind ≡ false → (n n′ : ℕ) → step r m (with-number kind n) ≡ step r m (with-number kind n′)
+  unfolding line-refusal next
+  no-number e n n′ = let w = without kind e in either (eqb kind plant-line) (λ p. rw (p, w .0, w .1, w .2)) (λ p. rw (p, w .0, w .1, w .2))
 
-  high-posting : size (m .plant) ≤ 65535 → (d : ℕ) (b : Bool) → 65535 < d → line-refusal r m (Posting d b) ≡ pick (is closed m) 25 (pick (not (is postings m)) 21 22)
-  unfolding line-refusal
-  high-posting z d b h = rw (ne-eqb d 0 (omega arith), lt-ltb (size (m .plant)) d (omega arith))
+  capped-kind : (n : ℕ) → step r m (with-number kind (up-to highest-known n)) ≡ step r m (with-number kind n)
+  capped-kind n =
+      either (numbered true true true kind)
+      (λ e. capped-step (λ i. step r m (with-number kind i)) highest-known n _ (high e))
+      (λ e. no-number e _ n)
 
-  -- a number above 65,535 is refused as 65,536 is
-  form-capped : size (m .plant) ≤ 65535 → (f : Form) → from-form r m (capped-form f) k s ≡ from-form r m f k s
-  form-capped z Plant = refl
-  form-capped z (Device n) =
-      by-cap (λ e. from-form r m (Device e) k s) 65535 n (λ h. outside (Device (min n 65536)) (Device n) (is closed m) (not (is devices m)) (high-device (min n 65536) (omega arith)) (high-device n h))
-  form-capped z (Term n) =
-      by-cap (λ e. from-form r m (Term e) k s) 65535 n (λ h. outside (Term (min n 65536)) (Term n) (is closed m) (not (is terms m || (is devices m && empty (m .opened)))) (high-term (min n 65536) (omega arith)) (high-term n h))
-  form-capped z (Posting d b) =
-      by-cap (λ e. from-form r m (Posting e b) k s) 65535 d (λ h. outside (Posting (min d 65536) b) (Posting d b) (is closed m) (not (is postings m)) (high-posting z (min d 65536) b (omega arith)) (high-posting z d b h))
-  form-capped z Close = refl
-  form-capped z Other = refl
-  form-capped z Unfinished = refl
+module _ (r : Room) (m : State) (z : size (m .plant) ≤ highest-known) where
+  capped-same : (f : Form) → step r m (capped-form highest-known f) ≡ step r m f
+  capped-same f = of-kind r m (capped-form highest-known f) refl ∙ capped-kind r m z (f .kind) (f .number) ∙ sym (of-kind r m f refl)
 
--- before the plant is closed, what is read from an index on is what its line does, and what is read from the next on
-module _ {t : List ℕ} {at nxt : ℕ} {f : Form} (x : Lexed t at f nxt) (r : Room) (m : State) (k : ℕ) where
-  pub reading-form : size (m .plant) ≤ 65535 → is closed m ≡ false → from r m k (drop at t) ≡ from-form r m f k (drop nxt t)
-  unfolding line-refusal
-  reading-form z o =
-      by-order at nxt
-      (λ l. let w = x .whole l in
-      texts.reading-line (line r) (end r) m k t at (omega (arith, w .1, x .within))
-      ∙ rw (w .1, w .0) (sym (form-capped r m k (drop (at + length (line-at t at) + 1) t) z (form (line-at t at)))))
-      (λ l. let u = x .unfinished (omega (arith, x .onward)) in
-      texts.reading-tail (line r) (end r) m k t at (u .1) ∙ rw (u .0, o))
+-- the line that the code finds at an index
+module _ (t : List ℕ) (at : ℕ) {g : Found} (x : g ≡ found-at highest-known rows t at) where
+  -- before the plant is closed, what is read from there on is what the line does, and what is read from the next on
+  pub reading-form : (r : Room) (m : State) (k : ℕ) → size (m .plant) ≤ highest-known → is closed m ≡ false →
+      from r m k (drop at t) ≡ from-form r m (g .form) k (drop (g .next) t)
+  reading-form r m k z o =
+      texts.reading-at rows (is closed) (step r) m k t at (unfinished-refused r) (rw o)
+      ∙ ap (λ (y : Step State). and-then y k (λ m′. from r m′ (k + 1) (drop (next-at t at) t))) (sym (capped-same r m z (form-at rows t at)))
+      ∙ ap (λ (h : Found). from-form r m (h .form) k (drop (h .next) t)) (sym x)
 
--- a line that is not unfinished ends before the next begins
-pub lexed-moves : {t : List ℕ} {at nxt : ℕ} {f : Form} → Lexed t at f nxt → is-unfinished f ≡ false → at < nxt
-lexed-moves {t} {at} {nxt} {f} x h =
-    by-order at nxt (λ l. l) (λ l. let u : true ≡ false = rw (x .unfinished (omega (arith, x .onward)) .0) at h in absurd (true≢false u))
+  found-within : g .next ≤ length t
+  found-within = rw x (next-within t at)
 
--- where reading is after a line
-pub next-line : {t : List ℕ} {at nxt k c : ℕ} {f : Form} → ReadingAt t at k c → Lexed t at f nxt → is-unfinished f ≡ false → (n : ℕ) → n ≤ c + 1 → ReadingAt t nxt (k + 1) n
-next-line s x h n l = let m = lexed-moves x h in record { fits = s .fits; within = x .within; lined = omega (arith, s .lined); counted = omega (arith, s .counted) }
+  pub found-from : at ≤ length t → at ≤ g .next
+  found-from h = rw x (next-from t at h)
 
--- a row of two tests
-pub pick-or : (a b : Bool) (n m : ℕ) → pick (a || b) n m ≡ pick a n (pick b n m)
-pick-or true b n m = refl
-pick-or false b n m = refl
+  -- a line that is not unfinished ends before the next begins
+  pub found-moves : (g .form .kind ≡ unfinished → ⊥) → at < g .next
+  found-moves h = let e : g .form .kind ≡ form-at rows t at .kind = rw x in rw x (next-onward t at (whole-kind rows t at (λ w. h (e ∙ w))))
 
--- what a form is, by what the code finds
-pub is-device : (f : Form) {n : ℕ} → level-of f ≡ Value n → f ≡ Device n
-is-device Plant e = cc
-is-device (Device m) e = cc
-is-device (Term m) e = cc
-is-device (Posting d s) e = cc
-is-device Close e = cc
-is-device Other e = cc
-is-device Unfinished e = cc
+  module _ {k : ℕ} (s : ReadingAt t at k) where
+    pub next-line : ReadingAt t (g .next) k
+    next-line = record { fits = s .fits; within = found-within; lined = omega (arith, s .lined, found-from (s .within)) }
 
-pub is-term : (f : Form) {n : ℕ} → term-of f ≡ Value n → f ≡ Term n
-is-term Plant e = cc
-is-term (Device m) e = cc
-is-term (Term m) e = cc
-is-term (Posting d s) e = cc
-is-term Close e = cc
-is-term Other e = cc
-is-term Unfinished e = cc
+    pub past-line : (g .form .kind ≡ unfinished → ⊥) → k ≤ g .next
+    past-line h = omega (arith, s .lined, found-moves h)
 
-pub is-posting : (f : Form) {d : ℕ} {s : Bool} → posting-of f ≡ Here d s → f ≡ Posting d s
-is-posting Plant e = cc
-is-posting (Device m) e = cc
-is-posting (Term m) e = cc
-is-posting (Posting d s) e = cc
-is-posting Close e = cc
-is-posting Other e = cc
-is-posting Unfinished e = cc
+-- what reading comes to at a line of a known kind
+pub at-kind : (r : Room) (m : State) (k : ℕ) (s : List ℕ) (f : Form) {j : ℕ} → f .kind ≡ j → from-form r m f k s ≡ from-form r m (with-number j (f .number)) k s
+at-kind r m k s f e = ap (λ (y : Step State). and-then y k (λ m′. from r m′ (k + 1) s)) (of-kind r m f e)
 
-pub is-closing : (b : ℕ) (f : Form) → end-refusal b f ≡ 0 → f ≡ Close
-is-closing b Plant e = absurd (omega arith)
-is-closing b (Device n) e = absurd (omega arith)
-is-closing b (Term n) e = absurd (omega arith)
-is-closing b (Posting n s) e = absurd (omega arith)
-is-closing b Close e = refl
-is-closing b Other e = absurd (omega arith)
-is-closing b Unfinished e = absurd (omega arith)
+-- what holds of both kinds of posting
+pub posting-kinds : (F : ℕ → Type 0) (k : ℕ) → is-posting k ≡ true → F own-line → F all-line → F k
+posting-kinds F k e a b =
+    either (eqb k own-line) (λ p. subst F (sym (eqb-true k own-line p)) a)
+    (λ p. let q : eqb k all-line ≡ true = rw p at e in subst F (sym (eqb-true k all-line q)) b)
 
--- a form that is known is not unfinished
-pub finished : {f g : Form} → f ≡ g → is-unfinished g ≡ false → is-unfinished f ≡ false
-finished e h = rw e h
+-- the end of what is open
+pub refused-by : (a b : Bool) (x : ℕ) → b ≡ true → pick a 24 (pick b 21 x) ≡ pick a 24 21
+refused-by true b x e = refl
+refused-by false b x e = rw e
+
+pub not-standing : (r : Room) (m : State) (f : Form) → is closed m ≡ false → stands (m .stage) (m .opened) (f .kind) ≡ false →
+    line-refusal r m f ≡ pick (eqb (f .kind) unfinished) 24 21
+unfolding line-refusal
+not-standing r m f o e = rw o (refused-by (eqb (f .kind) unfinished) (misplaced m f) _ (rw e))
+
+module _ (b kind : ℕ) where
+  pub is-closing : end-refusal b kind ≡ 0 → kind ≡ close-line
+  is-closing e =
+      let a = pick-none (eqb kind unfinished) 23 _ e in
+      let c = pick-none (not (eqb kind close-line)) 20 _ (a .1) in
+      eqb-true kind close-line (not-no (eqb kind close-line) .0 (c .0))
+
+  not-closing : (b ≡ 0 → ⊥) → (end-refusal b kind ≡ 0 → ⊥) → eqb kind close-line ≡ false
+  not-closing n h = refuted (eqb kind close-line) (λ t. let z : kind ≡ close-line = eqb-true kind close-line t in h (rw (z, ne-eqb b 0 n)))
+
+-- a line that does not end what is open, and that can't stand there unless it does
+pub not-ended : (r : Room) (m : State) (f : Form) (b : ℕ) → is closed m ≡ false → (b ≡ 0 → ⊥) → (end-refusal b (f .kind) ≡ 0 → ⊥) →
+    (eqb (f .kind) close-line ≡ false → stands (m .stage) (m .opened) (f .kind) ≡ false) → line-refusal r m f ≡ end-refusal b (f .kind)
+not-ended r m f b o n h e =
+    let c = not-closing b (f .kind) n h in
+    not-standing r m f o (e c) ∙ sym (refused-by (eqb (f .kind) unfinished) (not (eqb (f .kind) close-line)) _ (rw c))

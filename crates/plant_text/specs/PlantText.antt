@@ -218,6 +218,37 @@ abbrev pub outcome-of : Read State → Outcome
 outcome-of (made m) = outcome.Made (size (m .plant)) (count (m .index)) (length (m .index .postings))
 outcome-of (no n k) = outcome.Refused n k
 
+-- An outcome in document 01's numbers, case by case: its number, 0 or the refusal; and its values, the line of a refusal, or the numbers of devices,
+-- terms and postings. A value that a case does not have is 0.
+pub record Values : Type 0 where
+  pub line : ℕ
+  pub devices : ℕ
+  pub terms : ℕ
+  pub postings : ℕ
+
+abbrev pub counted : ℕ → ℕ → ℕ → Values
+counted d n p = record { line = 0; devices = d; terms = n; postings = p }
+
+abbrev pub at-line : ℕ → Values
+at-line k = record { line = k; devices = 0; terms = 0; postings = 0 }
+
+abbrev pub outcome-number : Outcome → ℕ
+outcome-number (outcome.Made d n p) = 0
+outcome-number (outcome.Refused n k) = n
+
+abbrev pub outcome-values : Outcome → Values
+outcome-values (outcome.Made d n p) = counted d n p
+outcome-values (outcome.Refused n k) = at-line k
+
+-- and those of what a text comes to
+abbrev pub read-number : Read State → ℕ
+read-number (made m) = 0
+read-number (no n k) = n
+
+abbrev pub read-values : Read State → Values
+read-values (made m) = counted (size (m .plant)) (count (m .index)) (length (m .index .postings))
+read-values (no n k) = at-line k
+
 -- what is left in the tables: "entries beyond those are 0. Any plant-text refusal sets every entry of every lent table to 0"
 abbrev pub kept : Read State → State
 kept (made m) = m

@@ -1,25 +1,27 @@
 // The readers of devices.
 ghost use mathlib.Core.Path.{_≡_};
 ghost use mathlib.Core.Bool.{cond};
-ghost use Prim.Native.Nat.{_+_, _≤_};
+ghost use Prim.Native.Nat.{_+_, _≤_, _<_};
 ghost use lib.Dec.{leb, ltb, eqb};
+ghost use lib.ListN.{length, set};
+ghost use Rattle.laws.specs.Limits.{«most-devices»};
 ghost use Rattle.laws.specs.Rows.{pick};
 ghost use Rattle.plant.specs.Plant.{plant};
-ghost use Rattle.plant_text.specs.PlantText.{«highest-code», «most-open»};
-ghost use Rattle.plant_text.specs.inner.Rest.{ReadingAt};
-ghost use Rattle.plant_text.specs.inner.Devices.{Fits, Opens, DeviceRead, ListRead};
+ghost use Rattle.plant_text.specs.PlantText.{«longest-text», «highest-code», «most-open»};
+ghost use Rattle.plant_text.specs.inner.Rest.{«line-after»};
+ghost use Rattle.plant_text.specs.inner.Devices.{«opened-at», DeviceStart, DeviceRead, ListStart, ListRead};
 use crate::Room;
+use crate::lines::DEVICE;
 use crate::lines::Ending;
-use crate::lines::Form;
+use crate::lines::Place;
 use crate::lines::end_refusal;
-use crate::lines::level_of;
 use crate::lines::line_at;
-use text::Number;
+use text::Form;
 
-// A list of devices that has been read up to a line of another form: the form, where the next line begins, the line's number, and the count
-// of devices; or the number of the refusal and its line.
+// A list of devices that has been read up to a line that is no device's: its form, where reading goes on after it, and its number; or the
+// number of the refusal and its line.
 pub enum Listed {
-    Stopped(Form, usize, u32, usize),
+    Stopped(Form, Place),
     Refused(u32, u32),
 }
 
@@ -46,43 +48,37 @@ fn device_refusal(n: u64, depth: u32, most: usize, count: usize) -> u32
     0
 }
 
-// Opens device count + 1, of level n and below the outermost device out. Returns 0, or why it is refused.
-fn open_device(
-    room: Room,
-    count: usize,
-    depth: u32,
-    out: u16,
-    n: u64,
-    last: &mut [u16],
-    root: &mut [u16],
-    level: &mut [u8],
-) -> u32
-    requires { ⌜ Fits room (plant (now last) (now root) (now level)) ⌝ }
-    requires { ⌜ count ≤ room .devices ⌝ }
-    ensures opens { λ r. ⌜ Opens room
-        (plant (now (last .entry)) (now (root .entry)) (now (level .entry)))
-        count depth out n
-        (plant (now (last .exit)) (now (root .exit)) (now (level .exit)))
-        r ⌝ }
+// Opens device count + 1, of level n and below the outermost device out.
+fn open_device(count: usize, out: u16, n: u64, last: &mut [u16], root: &mut [u16], level: &mut [u8])
+    requires { ⌜ (n ≤ «highest-code») × (count < length (now last)) × (count < length (now root)) × (count < length (now level)) ⌝ }
+    ensures opens { λ _. ⌜ plant (now (last .exit)) (now (root .exit)) (now (level .exit))
+        ≡ «opened-at» (plant (now (last .entry)) (now (root .entry)) (now (level .entry))) count out n ⌝ }
 {
-    let most = room.devices;
-    let x = device_refusal(n, depth, most, count);
-    if x != 0 {
-        return x;
-    }
     last[count] = 0;
     root[count] = out;
     level[count] = n as u8;
-    0
 }
 
-// Reads the device of level n whose opening line is `line`, from the line after it on.
+// Closes device count + 1, whose list stopped at a closing bracket. Returns where reading goes on.
+fn close_device(count: usize, stop: Place, last: &mut [u16]) -> Place
+    requires { ⌜ (count < length (now last)) × (stop .count ≤ «most-devices») × (stop .line ≤ «longest-text» + 1) ⌝ }
+    ensures last { λ _. ⌜ now (last .exit) ≡ set (now (last .entry)) count (stop .count) ⌝ }
+    ensures after { λ r. ⌜ r ≡ «line-after» stop (stop .at) ⌝ }
+{
+    let end = stop.count;
+    last[count] = end as u16;
+    Place {
+        at: stop.at,
+        line: stop.line + 1,
+        count: end,
+    }
+}
+
+// Reads the device of level n that opens at the line of `place`, from the line after it on.
 fn device(
     text: &[u8],
     room: Room,
-    at: usize,
-    line: u32,
-    count: usize,
+    place: Place,
     depth: u32,
     top: u16,
     n: u64,
@@ -90,87 +86,75 @@ fn device(
     root: &mut [u16],
     level: &mut [u8],
 ) -> Ending
-    requires { ⌜ ReadingAt (now text) at (line + 1) (count + 1) ⌝ }
-    requires { ⌜ Fits room (plant (now last) (now root) (now level)) ⌝ }
-    requires { ⌜ count ≤ room .devices ⌝ }
+    requires { ⌜ DeviceStart room (now text) (plant (now last) (now root) (now level)) place ⌝ }
     ensures reads { λ r. ⌜ DeviceRead room (now (text .entry))
         (plant (now (last .entry)) (now (root .entry)) (now (level .entry)))
-        n at line count depth top
+        n place depth top
         (plant (now (last .exit)) (now (root .exit)) (now (level .exit)))
         r ⌝ }
 {
-    let own = (count + 1) as u16;
-    let out = outer(depth, top, own);
-    let x = open_device(room, count, depth, out, n, last, root, level);
+    let line = place.line;
+    let count = place.count;
+    let x = device_refusal(n, depth, room.devices, count);
     if x != 0 {
         return Ending::Refused(x, line);
     }
-    let inside = devices(
-        text,
-        room,
-        at,
-        line + 1,
-        count + 1,
-        depth + 1,
-        out,
-        last,
-        root,
-        level,
-    );
-    match inside {
+    let own = (count + 1) as u16;
+    let out = outer(depth, top, own);
+    open_device(count, out, n, last, root, level);
+    let inside = Place {
+        at: place.at,
+        line: line + 1,
+        count: count + 1,
+    };
+    match devices(text, room, inside, depth + 1, out, last, root, level) {
         Listed::Refused(y, k) => Ending::Refused(y, k),
-        Listed::Stopped(f, next, k, c) => {
-            let y = end_refusal(depth + 2, f);
+        Listed::Stopped(f, stop) => {
+            let y = end_refusal(depth + 2, f.kind);
             if y != 0 {
-                return Ending::Refused(y, k);
+                return Ending::Refused(y, stop.line);
             }
-            let end = c as u16;
-            last[count] = end;
-            Ending::Ended(next, k + 1, c)
+            Ending::Ended(close_device(count, stop, last))
         }
     }
 }
 
-// Reads devices from `at` on, up to a line of another form.
+// Reads devices from a place on, up to a line that is no device's.
 pub fn devices(
     text: &[u8],
     room: Room,
-    at: usize,
-    line: u32,
-    count: usize,
+    place: Place,
     depth: u32,
     top: u16,
     last: &mut [u16],
     root: &mut [u16],
     level: &mut [u8],
 ) -> Listed
-    requires { ⌜ ReadingAt (now text) at line count ⌝ }
-    requires { ⌜ Fits room (plant (now last) (now root) (now level)) ⌝ }
-    requires { ⌜ count ≤ room .devices ⌝ }
+    requires { ⌜ ListStart room (now text) (plant (now last) (now root) (now level)) place ⌝ }
     ensures reads { λ r. ⌜ ListRead room (now (text .entry))
         (plant (now (last .entry)) (now (root .entry)) (now (level .entry)))
-        at line count depth top
+        place depth top
         (plant (now (last .exit)) (now (root .exit)) (now (level .exit)))
         r ⌝ }
 {
-    let mut a = at;
-    let mut k = line;
-    let mut c = count;
+    let mut p = place;
     loop {
-        let found = line_at(text, a);
+        let found = line_at(text, p.at);
         let f = found.form;
-        let next = found.next;
-        let Number::Value(n) = level_of(f) else {
-            return Listed::Stopped(f, next, k, c);
+        let here = Place {
+            at: found.next,
+            line: p.line,
+            count: p.count,
         };
-        match device(text, room, next, k, c, depth, top, n, last, root, level) {
+        if f.kind != DEVICE {
+            return Listed::Stopped(f, here);
+        }
+        match device(text, room, here, depth, top, f.number, last, root, level) {
             Ending::Refused(x, l) => {
                 return Listed::Refused(x, l);
             }
-            Ending::Ended(b, l, d) => {
-                a = b;
-                k = l;
-                c = d;
+            Ending::Ended(q) => {
+                p = q;
             }
         }
     }

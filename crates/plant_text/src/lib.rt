@@ -5,12 +5,24 @@ ghost use Prim.Native.Nat.{_-_, _≤_};
 ghost use lib.ListN.{length, take, replicate};
 ghost use Rattle.plant.specs.Plant.{plant};
 ghost use Rattle.index.specs.Index.{index};
-ghost use Rattle.plant_text.specs.PlantText.{places, «outcome-after», «plant-after», «index-after»};
+ghost use Rattle.plant_text.specs.PlantText.{
+  places,
+  «outcome-number»,
+  «outcome-values»,
+  «read-number»,
+  «read-values»,
+  «read-into»,
+  «outcome-after»,
+  «plant-after»,
+  «index-after»,
+};
+ghost use Rattle.plant_text.specs.inner.Rest.{Bounded};
 ghost use Rattle.plant_text.specs.inner.Devices.{Fits};
 ghost use Rattle.plant_text.specs.inner.Terms.{FitsIndex};
-ghost use Rattle.plant_text.specs.inner.Whole.{«devices-in», «terms-in», «postings-in», ReadAll};
+ghost use Rattle.plant_text.specs.inner.Whole.{ReadAll};
 use crate::devices::Listed;
 use crate::devices::devices;
+use crate::lines::Place;
 use crate::lines::line_at;
 use crate::lines::start_refusal;
 use crate::terms::Closing;
@@ -55,6 +67,12 @@ pub fn read(
         ≡ «index-after» (now (text .entry))
         (plant (now (last .entry)) (now (root .entry)) (now (level .entry)))
         (index (now (terms .entry)) (now (starts .entry)) (now (postings .entry))) ⌝ }
+    ensures number { λ r. ⌜ «outcome-number» r ≡ «read-number» («read-into» (now (text .entry))
+        (plant (now (last .entry)) (now (root .entry)) (now (level .entry)))
+        (index (now (terms .entry)) (now (starts .entry)) (now (postings .entry)))) ⌝ }
+    ensures values { λ r. ⌜ «outcome-values» r ≡ «read-values» («read-into» (now (text .entry))
+        (plant (now (last .entry)) (now (root .entry)) (now (level .entry)))
+        (index (now (terms .entry)) (now (starts .entry)) (now (postings .entry)))) ⌝ }
 {
     let room = room_of(
         last.len(),
@@ -88,12 +106,13 @@ fn room_of(
 ) -> Room
     ensures { λ r. ⌜ r ≡ places last root level terms starts postings ⌝ }
 {
-    let devices = least(last, least(root, level));
-    let both = least(terms, starts);
+    let devices = least(65535, least(last, least(root, level)));
+    let both = least(8192, least(terms, starts));
+    let most = least(1048576, postings);
     Room {
         devices: devices,
         terms: both,
-        postings: postings,
+        postings: most,
     }
 }
 
@@ -108,6 +127,7 @@ fn read_all(
     starts: &mut [u32],
     postings: &mut [u32],
 ) -> Outcome
+    requires { ⌜ Bounded room ⌝ }
     requires { ⌜ Fits room (plant (now last) (now root) (now level)) ⌝ }
     requires { ⌜ FitsIndex room (index (now terms) (now starts) (now postings)) ⌝ }
     ensures reads { λ r. ⌜ ReadAll room (now (text .entry))
@@ -120,21 +140,25 @@ fn read_all(
     }
     let first = line_at(text, 0);
     let f = first.form;
-    let next = first.next;
-    let x = start_refusal(f);
+    let x = start_refusal(f.kind);
     if x != 0 {
         return Outcome::Refused(x, 1);
     }
-    match devices(text, room, next, 2, 0, 0, 0, last, root, level) {
+    let begin = Place {
+        at: first.next,
+        line: 2,
+        count: 0,
+    };
+    match devices(text, room, begin, 0, 0, last, root, level) {
         Listed::Refused(y, k) => Outcome::Refused(y, k),
-        Listed::Stopped(g, a, k, d) => {
-            match read_terms(text, room, g, a, k, d, last, terms, starts, postings) {
+        Listed::Stopped(g, stop) => {
+            match read_terms(text, room, g, stop, last, terms, starts, postings) {
                 Closing::Refused(y, l) => Outcome::Refused(y, l),
-                Closing::Closed(b, l, n, p) => {
-                    if b < text.len() {
-                        return Outcome::Refused(25, l);
+                Closing::Closed(n, end) => {
+                    if end.at < text.len() {
+                        return Outcome::Refused(25, end.line);
                     }
-                    Outcome::Made(d, n, p)
+                    Outcome::Made(stop.count, n, end.count)
                 }
             }
         }
@@ -142,7 +166,7 @@ fn read_all(
 }
 
 fn devices_in(r: Outcome) -> usize
-    ensures { λ n. ⌜ n ≡ «devices-in» r ⌝ }
+    ensures { λ n. ⌜ n ≡ «outcome-values» r .devices ⌝ }
 {
     match r {
         Outcome::Made(d, _, _) => d,
@@ -151,7 +175,7 @@ fn devices_in(r: Outcome) -> usize
 }
 
 fn terms_in(r: Outcome) -> usize
-    ensures { λ n. ⌜ n ≡ «terms-in» r ⌝ }
+    ensures { λ n. ⌜ n ≡ «outcome-values» r .terms ⌝ }
 {
     match r {
         Outcome::Made(_, n, _) => n,
@@ -160,7 +184,7 @@ fn terms_in(r: Outcome) -> usize
 }
 
 fn postings_in(r: Outcome) -> usize
-    ensures { λ n. ⌜ n ≡ «postings-in» r ⌝ }
+    ensures { λ n. ⌜ n ≡ «outcome-values» r .postings ⌝ }
 {
     match r {
         Outcome::Made(_, _, p) => p,

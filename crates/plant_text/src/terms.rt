@@ -1,7 +1,7 @@
 // The readers of terms and postings.
 ghost use mathlib.Core.Path.{_≡_};
 ghost use mathlib.Core.Bool.{true, _||_};
-ghost use Prim.Native.Nat.{_-_, _/_, _≤_, _<_};
+ghost use Prim.Native.Nat.{_-_, _/_, _≤_};
 ghost use lib.Dec.{leb, ltb, eqb};
 ghost use lib.ListN.{length, take};
 ghost use lib.Seq.{slice};
@@ -10,25 +10,25 @@ ghost use Rattle.laws.specs.Rows.{pick};
 ghost use Rattle.laws.specs.Tables.{entry};
 ghost use Rattle.laws.specs.inner.Entries.{IsEntry};
 ghost use Rattle.index.specs.Postings.{device, shared, reach};
-ghost use Rattle.index.specs.Index.{index};
+ghost use Rattle.index.specs.Index.{index, «most-postings»};
 ghost use Rattle.index.specs.inner.Lists.{SoundList};
-ghost use Rattle.plant_text.specs.PlantText.{«longest-text», posting};
-ghost use Rattle.plant_text.specs.inner.Rest.{ReadingAt};
-ghost use Rattle.plant_text.specs.inner.Terms.{Adds, PostsRead, OpensTerm, TermsRead, TermsStart};
+ghost use Rattle.plant_text.specs.Form.{«is-posting»};
+ghost use Rattle.plant_text.specs.PlantText.{posting};
+ghost use Rattle.plant_text.specs.inner.Terms.{Adds, PostsStart, PostsRead, OpensTerm, TermsRead, TermsStart};
 use crate::Room;
+use crate::lines::ALL;
 use crate::lines::Ending;
-use crate::lines::Form;
-use crate::lines::Posted;
+use crate::lines::Place;
+use crate::lines::TERM;
 use crate::lines::end_refusal;
+use crate::lines::is_posting;
 use crate::lines::line_at;
-use crate::lines::posting_of;
-use crate::lines::term_of;
-use text::Number;
+use text::Form;
 
-// A plant that has been closed: where what follows begins, its line, and the counts of terms and postings; or the number of the refusal and
+// A plant that has been closed: the count of terms, and where what follows begins, with the count of postings; or the number of the refusal and
 // its line.
 pub enum Closing {
-    Closed(usize, u32, usize, usize),
+    Closed(usize, Place),
     Refused(u32, u32),
 }
 
@@ -87,20 +87,21 @@ fn posting_refusal(d: u64, count: usize, most: usize, n: usize, newest: u32, far
     0
 }
 
-// Adds posting n, for device d, to the list that starts at `begin`. Returns 0, or why it is refused.
+// Adds posting n, for device d, to the list that starts at `begin`, from a line of a kind. Returns 0, or why it is refused.
 fn add_posting(
     room: Room,
+    kind: u32,
     d: u64,
-    shared: bool,
     count: usize,
     begin: usize,
     n: usize,
     last: &[u16],
     postings: &mut [u32],
 ) -> u32
+    requires { ⌜ «is-posting» kind ≡ true ⌝ }
     requires { ⌜ (count ≤ length (now last)) × (count ≤ «most-devices») × (begin ≤ n) × (n ≤ room .postings) × (room .postings ≤ length (now postings)) ⌝ }
     requires { ⌜ SoundList (take count (now last)) (slice begin n (now postings)) ⌝ }
-    ensures { λ r. ⌜ Adds room (now (last .entry)) (now (postings .entry)) count begin n d shared (now (postings .exit)) r ⌝ }
+    ensures { λ r. ⌜ Adds room (now (last .entry)) (now (postings .entry)) count begin n kind d (now (postings .exit)) r ⌝ }
 {
     let most = room.postings;
     let q = newest_posting(postings, begin, n);
@@ -109,46 +110,52 @@ fn add_posting(
     if x != 0 {
         return x;
     }
-    postings[n] = posting_for(d, shared);
+    postings[n] = posting_for(d, kind == ALL);
     0
 }
 
-// Reads a term's postings from `at` on, up to its end. Its first is posting `begin`.
+// Reads a term's postings from a place on, up to its end. Its first is the place's next.
 fn read_postings(
     text: &[u8],
     room: Room,
-    at: usize,
-    line: u32,
+    place: Place,
     count: usize,
-    begin: usize,
     last: &[u16],
     postings: &mut [u32],
 ) -> Ending
-    requires { ⌜ ReadingAt (now text) at line begin ⌝ }
-    requires { ⌜ (count < at) × (count ≤ length (now last)) × (begin ≤ room .postings) × (room .postings ≤ length (now postings)) ⌝ }
-    ensures { λ r. ⌜ PostsRead room (now (text .entry)) (now (last .entry)) (now (postings .entry)) at line count begin (now (postings .exit)) r ⌝ }
+    requires { ⌜ PostsStart room (now text) (now last) (now postings) count place ⌝ }
+    ensures { λ r. ⌜ PostsRead room (now (text .entry)) (now (last .entry)) (now (postings .entry)) place count (now (postings .exit)) r ⌝ }
 {
-    let mut a = at;
-    let mut k = line;
-    let mut n = begin;
+    let begin = place.count;
+    let mut p = place;
     loop {
-        let found = line_at(text, a);
-        let f = found.form;
+        let k = p.line;
+        let n = p.count;
+        let found = line_at(text, p.at);
         let next = found.next;
-        let Posted::Here(d, shared) = posting_of(f) else {
-            let x = end_refusal(2, f);
+        let f = found.form;
+        let kind = f.kind;
+        if !is_posting(kind) {
+            let x = end_refusal(2, kind);
             if x != 0 {
                 return Ending::Refused(x, k);
             }
-            return Ending::Ended(next, k + 1, n);
-        };
-        let x = add_posting(room, d, shared, count, begin, n, last, postings);
+            let after = Place {
+                at: next,
+                line: k + 1,
+                count: n,
+            };
+            return Ending::Ended(after);
+        }
+        let x = add_posting(room, kind, f.number, count, begin, n, last, postings);
         if x != 0 {
             return Ending::Refused(x, k);
         }
-        a = next;
-        k += 1;
-        n += 1;
+        p = Place {
+            at: next,
+            line: k + 1,
+            count: n + 1,
+        };
     }
 }
 
@@ -181,7 +188,7 @@ fn term_refusal(v: u64, most: usize, count: usize, newest: u16) -> u32
 
 // Opens term n + 1, of number v, with p postings before it. Returns 0, or why it is refused.
 fn open_term(room: Room, v: u64, n: usize, p: usize, terms: &mut [u16], starts: &mut [u32]) -> u32
-    requires { ⌜ (n ≤ room .terms) × (room .terms ≤ length (now terms)) × (room .terms ≤ length (now starts)) × (p < «longest-text») ⌝ }
+    requires { ⌜ (n ≤ room .terms) × (room .terms ≤ length (now terms)) × (room .terms ≤ length (now starts)) × (p ≤ «most-postings») ⌝ }
     ensures { λ r. ⌜ OpensTerm room (now (terms .entry)) (now (starts .entry)) n p v (now (terms .exit)) (now (starts .exit)) r ⌝ }
 {
     let most = room.terms;
@@ -195,56 +202,59 @@ fn open_term(room: Room, v: u64, n: usize, p: usize, terms: &mut [u16], starts: 
     0
 }
 
-// Reads terms from a line of a form on, whose next line begins at `next`, to the end of the plant.
+// Reads terms from a line of a form on, after which reading goes on at a place, to the end of the plant.
 pub fn read_terms(
     text: &[u8],
     room: Room,
     form: Form,
-    next: usize,
-    line: u32,
-    count: usize,
+    place: Place,
     last: &[u16],
     terms: &mut [u16],
     starts: &mut [u32],
     postings: &mut [u32],
 ) -> Closing
-    requires { ⌜ TermsStart room (now text) (now last) count
+    requires { ⌜ TermsStart room (now text) (now last)
         (index (now terms) (now starts) (now postings))
-        form next line ⌝ }
-    ensures reads { λ r. ⌜ TermsRead room (now (text .entry)) (now (last .entry)) count
+        form place ⌝ }
+    ensures reads { λ r. ⌜ TermsRead room (now (text .entry)) (now (last .entry))
         (index (now (terms .entry)) (now (starts .entry)) (now (postings .entry)))
-        form next line
+        form place
         (index (now (terms .exit)) (now (starts .exit)) (now (postings .exit)))
         r ⌝ }
 {
+    let count = place.count;
     let mut f = form;
-    let mut a = next;
-    let mut k = line;
     let mut n: usize = 0;
-    let mut p: usize = 0;
+    let mut p = place;
+    p.count = 0;
     loop {
-        let Number::Value(v) = term_of(f) else {
-            let x = end_refusal(1, f);
+        let k = p.line;
+        let after = Place {
+            at: p.at,
+            line: k + 1,
+            count: p.count,
+        };
+        if f.kind != TERM {
+            let x = end_refusal(1, f.kind);
             if x != 0 {
                 return Closing::Refused(x, k);
             }
-            return Closing::Closed(a, k + 1, n, p);
-        };
-        let x = open_term(room, v, n, p, terms, starts);
+            return Closing::Closed(n, after);
+        }
+        let x = open_term(room, f.number, n, p.count, terms, starts);
         if x != 0 {
             return Closing::Refused(x, k);
         }
-        match read_postings(text, room, a, k + 1, count, p, last, postings) {
+        match read_postings(text, room, after, count, last, postings) {
             Ending::Refused(y, l) => {
                 return Closing::Refused(y, l);
             }
-            Ending::Ended(b, l, q) => {
-                let found = line_at(text, b);
+            Ending::Ended(q) => {
+                let found = line_at(text, q.at);
                 f = found.form;
-                a = found.next;
-                k = l;
                 n += 1;
                 p = q;
+                p.at = found.next;
             }
         }
     }

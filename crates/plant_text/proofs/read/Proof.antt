@@ -3,11 +3,37 @@ use borrow.Author.Needs.{needs}
 use native.Mathlib.Omega.{arith}
 use Rattle.plant.specs.Plant.{plant}
 use Rattle.index.specs.Index.{index}
+use Rattle.plant_text.specs.PlantText.{read-into}
 use Rattle.plant_text.specs.inner.Devices.{Fits}
 use Rattle.plant_text.specs.inner.Terms.{FitsIndex}
-use Rattle.plant_text.proofs.Whole.{room-fits, room-fits-index, outcome-is, plant-filled, index-filled}
+use Rattle.plant_text.proofs.Whole.{room-bounded, room-fits, room-fits-index, outcome-is, number-is, values-are, plant-filled, index-filled}
 use Rattle.plant_text.proofs.read.Statement.{statement}
 use Rattle.plant_text.proofs.read.Tie as tie
+
+-- from each step to the one before it: the tables are cleared in their order, after the counts are told and the text is read
+abbrev cleared-starts : tie.After-clear322 → tie.After-clear32
+cleared-starts c = c .before .before .before .before
+
+abbrev cleared-terms : tie.After-clear32 → tie.After-clear163
+cleared-terms c = c .before .before .before .before
+
+abbrev cleared-level : tie.After-clear163 → tie.After-clear8
+cleared-level c = c .before .before .before .before
+
+abbrev cleared-root : tie.After-clear8 → tie.After-clear162
+cleared-root c = c .before .before .before .before
+
+abbrev cleared-last : tie.After-clear162 → tie.After-clear16
+cleared-last c = c .before .before .before .before
+
+abbrev told : tie.After-clear16 → tie.After-postings-in
+told c = c .before .before
+
+abbrev read : tie.After-postings-in → tie.After-read-all
+read c = c .before .before .before .before .before .before .before .before .before .before .before .before .before .before .before
+
+abbrev roomed : tie.After-read-all → tie.After-room-of
+roomed c = c .before .before .before .before .before .before .before
 
 -- the room is room in each table
 fits : (c : tie.After-room-of) → let a = c .before .before .before .before .before .before .before .before .args in Fits (c .room-of .result) (plant (a .last .now) (a .root .now) (a .level .now))
@@ -21,41 +47,72 @@ fits-index c =
     room-fits-index (plant (a .last .now) (a .root .now) (a .level .now)) (index (a .terms .now) (a .starts .now) (a .postings .now)) (c .room-of .ensures)
 
 read-all-requires : tie.Need-read-all-requires
-read-all-requires c κs = (fits (c .before .before .before .before .before .before), fits-index (c .before .before .before .before .before .before))
+read-all-requires c κs =
+    let r = c .before .before .before .before .before .before in
+    let a = r .before .before .before .before .before .before .before .before .args in (
+      room-bounded (plant (a .last .now) (a .root .now) (a .level .now)) (index (a .terms .now) (a .starts .now) (a .postings .now)) (r .room-of .ensures),
+      (fits r, fits-index r),
+    )
 
 clear16-requires : tie.Need-clear16-requires
-clear16-requires c κs = let r = c .before .before .before .before .before .before .before .before .before .before .before .before .before .before .before .before in omega (arith, c .before .before .before .devices-in .ensures, r .read-all .ensures .devices, r .read-all .kept .1 .1 .0, fits (r .before .before .before .before .before .before .before) .last)
+clear16-requires c κs =
+    let n = c .before in
+    let r = read n in
+    omega (arith, n .before .before .devices-in .ensures, r .read-all .ensures .devices, r .read-all .kept .1 .1 .0, fits (roomed r) .last)
 
 clear16-requires-2 : tie.Need-clear16-requires-2
-clear16-requires-2 c κs = let r = c .before .before .before .before .before .before .before .before .before .before .before .before .before .before .before .before .before .before .before .before in omega (arith, c .before .before .before .before .before .before .before .devices-in .ensures, r .read-all .ensures .devices, r .read-all .kept .1 .1 .1 .0, fits (r .before .before .before .before .before .before .before) .root)
+clear16-requires-2 c κs =
+    let n = told (c .before .before .before) in
+    let r = read n in
+    omega (arith, n .before .before .devices-in .ensures, r .read-all .ensures .devices, r .read-all .kept .1 .1 .1 .0, fits (roomed r) .root)
 
 clear8-requires : tie.Need-clear8-requires
-clear8-requires c κs = let r = c .before .before .before .before .before .before .before .before .before .before .before .before .before .before .before .before .before .before .before .before .before .before .before .before in omega (arith, c .before .before .before .before .before .before .before .before .before .before .before .devices-in .ensures, r .read-all .ensures .devices, r .read-all .kept .1 .1 .1 .1 .0, fits (r .before .before .before .before .before .before .before) .level)
+clear8-requires c κs =
+    let n = told (cleared-last (c .before .before .before)) in
+    let r = read n in
+    omega (arith, n .before .before .devices-in .ensures, r .read-all .ensures .devices, r .read-all .kept .1 .1 .1 .1 .0, fits (roomed r) .level)
 
 clear16-requires-3 : tie.Need-clear16-requires-3
-clear16-requires-3 c κs = let r = c .before .before .before .before .before .before .before .before .before .before .before .before .before .before .before .before .before .before .before .before .before .before .before .before .before .before .before .before in omega (arith, c .before .before .before .before .before .before .before .before .before .before .before .before .before .before .terms-in .ensures, r .read-all .ensures .terms, r .read-all .kept .1 .1 .1 .1 .1 .0, fits-index (r .before .before .before .before .before .before .before) .terms)
+clear16-requires-3 c κs =
+    let n = told (cleared-last (cleared-root (c .before .before .before))) in
+    let r = read n in
+    omega (arith, n .before .terms-in .ensures, r .read-all .ensures .terms, r .read-all .kept .1 .1 .1 .1 .1 .0, fits-index (roomed r) .terms)
 
 clear32-requires : tie.Need-clear32-requires
-clear32-requires c κs = let r = c .before .before .before .before .before .before .before .before .before .before .before .before .before .before .before .before .before .before .before .before .before .before .before .before .before .before .before .before .before .before .before .before in omega (arith, c .before .before .before .before .before .before .before .before .before .before .before .before .before .before .before .before .before .before .terms-in .ensures, r .read-all .ensures .terms, r .read-all .kept .1 .1 .1 .1 .1 .1 .0, fits-index (r .before .before .before .before .before .before .before) .starts)
+clear32-requires c κs =
+    let n = told (cleared-last (cleared-root (cleared-level (c .before .before .before)))) in
+    let r = read n in
+    omega (arith, n .before .terms-in .ensures, r .read-all .ensures .terms, r .read-all .kept .1 .1 .1 .1 .1 .1 .0, fits-index (roomed r) .starts)
 
 clear32-requires-2 : tie.Need-clear32-requires-2
-clear32-requires-2 c κs = let r = c .before .before .before .before .before .before .before .before .before .before .before .before .before .before .before .before .before .before .before .before .before .before .before .before .before .before .before .before .before .before .before .before .before .before .before .before in omega (arith, c .before .before .before .before .before .before .before .before .before .before .before .before .before .before .before .before .before .before .before .before .before .postings-in .ensures, r .read-all .ensures .postings, r .read-all .kept .1 .1 .1 .1 .1 .1 .1 .0, fits-index (r .before .before .before .before .before .before .before) .postings)
+clear32-requires-2 c κs =
+    let n = told (cleared-last (cleared-root (cleared-level (cleared-terms (c .before .before .before))))) in
+    let r = read n in
+    omega (arith, n .postings-in .ensures, r .read-all .ensures .postings, r .read-all .kept .1 .1 .1 .1 .1 .1 .1 .0, fits-index (roomed r) .postings)
 
 returns : tie.Need-returns
 returns c =
-    let o = c .before .before .before .before .before .before .before .before .before .before .before .before .before .before .before .before .before .before .before .before .before .before .before .before .before .before .before .before .before .before .before .before .before .before .before .before .before .before .before in
-    let a = o .before .before .before .before .before .before .before .before .before .before .before .before .before .before .before .args in
-    let e = o .before .before .before .before .before .before .before .room-of .ensures in
-    let k = o .read-all .kept .1 .1 in (
-      outcome-is (a .last .now) (a .root .now) (a .level .now) (a .terms .now) (a .starts .now) (a .postings .now) e (o .read-all .ensures) (k .0) (k .1 .1 .1 .0) (k .1 .1 .1 .1 .1 .0),
-      (
-        plant-filled (a .last .now) (a .root .now) (a .level .now) (a .terms .now) (a .starts .now) (a .postings .now) e (o .read-all .ensures)
-            (c .before .before .before .before .before .before .before .before .before .before .before .before .before .before .before .before .before .before .before .before .before .before .before .before .before .before .devices-in .ensures) (k .0) (k .1 .0) (k .1 .1 .0) (c .before .before .before .before .before .before .before .before .before .before .before .before .before .before .before .before .before .before .before .before .before .before .clear16 .ensures) (c .before .before .before .before .before .before .before .before .before .before .before .before .before .before .before .before .before .before .clear162 .ensures) (c .before .before .before .before .before .before .before .before .before .before .before .before .before .before .clear8 .ensures),
-        index-filled (a .last .now) (a .root .now) (a .level .now) (a .terms .now) (a .starts .now) (a .postings .now) e (o .read-all .ensures)
-            (c .before .before .before .before .before .before .before .before .before .before .before .before .before .before .before .before .before .before .before .before .before .before .before .before .before .terms-in .ensures) (c .before .before .before .before .before .before .before .before .before .before .before .before .before .before .before .before .before .before .before .before .before .before .before .before .postings-in .ensures) (k .1 .1 .1 .0) (k .1 .1 .1 .1 .0) (k .1 .1 .1 .1 .1 .0)
-            (c .before .before .before .before .before .before .before .before .before .before .clear163 .ensures) (c .before .before .before .before .before .before .clear32 .ensures) (c .before .before .clear322 .ensures),
-      ),
-    )
+    let postings = c .before .before in
+    let starts = cleared-starts postings in
+    let terms = cleared-terms starts in
+    let level = cleared-level terms in
+    let root = cleared-root level in
+    let last = cleared-last root in
+    let n = told last in
+    let r = read n in
+    let a = roomed r .before .before .before .before .before .before .before .before .args in
+    let e = roomed r .room-of .ensures in
+    let h = r .read-all .ensures in
+    let k = r .read-all .kept .1 .1 in
+    let s = read-into (a .text .now) (plant (a .last .now) (a .root .now) (a .level .now)) (index (a .terms .now) (a .starts .now) (a .postings .now)) in
+    let o = outcome-is (a .last .now) (a .root .now) (a .level .now) (a .terms .now) (a .starts .now) (a .postings .now) e h (k .0) (k .1 .1 .1 .0) (k .1 .1 .1 .1 .1 .0) in
+    let p =
+    plant-filled (a .last .now) (a .root .now) (a .level .now) (a .terms .now) (a .starts .now) (a .postings .now) e h (n .before .before .devices-in .ensures)
+    (k .0) (k .1 .0) (k .1 .1 .0) (last .clear16 .ensures) (root .clear162 .ensures) (level .clear8 .ensures) in
+    let i =
+    index-filled (a .last .now) (a .root .now) (a .level .now) (a .terms .now) (a .starts .now) (a .postings .now) e h (n .before .terms-in .ensures) (n .postings-in .ensures)
+    (k .1 .1 .1 .0) (k .1 .1 .1 .1 .0) (k .1 .1 .1 .1 .1 .0) (terms .clear163 .ensures) (starts .clear32 .ensures) (postings .clear322 .ensures) in
+    (o, (p, (i, (number-is s o, values-are s o))))
 
 pub read-spec : {M : Type 1} → statement M
 read-spec =

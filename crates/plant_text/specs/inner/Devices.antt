@@ -1,21 +1,21 @@
 -- What the readers of devices promise: what the rest of a text comes to, for every stack of open devices. The contracts of private functions
 -- alone cite this.
-use Prim.Native.Nat.{ℕ, _+_, _<_, _≤_}
+use Prim.Native.Nat.{ℕ, _≤_}
 use mathlib.Core.Path.{_≡_}
-use mathlib.Core.Bool.{false, cond}
-use mathlib.Core.List.{List, [], _∷_}
+use mathlib.Core.Bool.{cond}
+use mathlib.Core.List.{List, []}
 use lib.Dec.{eqb}
-use lib.ListN.{length, take, drop}
+use lib.ListN.{length, take, drop, set}
 use Rattle.plant.specs.Plant as plants
 use Rattle.index.specs.Index.{index}
+use Rattle.text.specs.Forms.{unfinished}
 use Rattle.text.specs.Reading.{Read, no}
-use Rattle.text.specs.declared.Number.the-variants.{Missing}
-use Rattle.plant_text.specs.Form.{is-unfinished}
-use Rattle.plant_text.specs.PlantText.{State, devices, most-open, line-refusal, next, outermost}
-use Rattle.plant_text.specs.inner.Rest.{from, from-form, ReadingAt, level-of}
+use Rattle.text.specs.declared.Form.{Form}
+use Rattle.plant_text.specs.Form.{device-line}
+use Rattle.plant_text.specs.PlantText.{State, devices, outermost}
+use Rattle.plant_text.specs.inner.Rest.{from, from-form, with-number, ReadingAt, Bounded}
 use Rattle.plant_text.specs.declared.Room.{Room}
-use Rattle.plant_text.specs.declared.lines.Form.{Form}
-use Rattle.plant_text.specs.declared.lines.Form.the-variants.{Device}
+use Rattle.plant_text.specs.declared.lines.Place.{Place}
 use Rattle.plant_text.specs.declared.lines.Ending.{Ending}
 use Rattle.plant_text.specs.declared.lines.Ending.the-variants as ending
 use Rattle.plant_text.specs.declared.devices.Listed.{Listed}
@@ -40,58 +40,64 @@ pub record Stack (stack : List ℕ) (depth top : ℕ) : Type 0 where
   pub size : length stack ≡ depth
   pub outer : (d : ℕ) → outermost stack d ≡ cond (eqb depth 0) d top
 
--- device count + 1 of level n opens below the outermost device out, or is refused by the number x
-pub record Opens (r : Room) (T : plants.Plant) (count depth out n : ℕ) (T′ : plants.Plant) (x : ℕ) : Type 0 where
-  pub refusal-is : (stack : List ℕ) → length stack ≡ depth → line-refusal r (devices-made T count stack) (Device n) ≡ x
-  pub opens : x ≡ 0 → (stack : List ℕ) → outermost stack (count + 1) ≡ out →
-      next (devices-made T count stack) (Device n) ≡ devices-made T′ (count + 1) ((count + 1) ∷ stack)
-  pub fits : Fits r T′
-  pub holds : x ≡ 0 → count + 1 ≤ r .devices
-  pub shallow : x ≡ 0 → depth < most-open
+-- the tables where device count + 1 of level n opens below the outermost device out, and where it closes at device c
+abbrev pub opened-at : plants.Plant → ℕ → ℕ → ℕ → plants.Plant
+opened-at T count out n = plants.plant (set (T .last) count 0) (set (T .root) count out) (set (T .level) count n)
 
--- what reading comes to from an index on, and where line k is of a form and the next begins at an index
-abbrev pub from-device : Room → List ℕ → plants.Plant → ℕ → ℕ → ℕ → List ℕ → Read State
-from-device r t T at k count stack = from r (devices-made T count stack) k (drop at t)
+abbrev pub closed-at : plants.Plant → ℕ → ℕ → plants.Plant
+closed-at T count c = plants.plant (set (T .last) count c) (T .root) (T .level)
 
-abbrev pub at-form : Room → List ℕ → plants.Plant → Form → ℕ → ℕ → ℕ → List ℕ → Read State
-at-form r t T f at k count stack = from-form r (devices-made T count stack) f k (drop at t)
+-- what reading comes to from a place on, and where its line is of a form, after which the text goes on there
+abbrev pub from-device : Room → List ℕ → plants.Plant → Place → List ℕ → Read State
+from-device r t T p stack = from r (devices-made T (p .count) stack) (p .line) (drop (p .at) t)
+
+abbrev pub at-form : Room → List ℕ → plants.Plant → Form → Place → List ℕ → Read State
+at-form r t T f p stack = from-form r (devices-made T (p .count) stack) f (p .line) (drop (p .at) t)
 
 -- two readings are the same with any stack of open devices that has this depth and this outermost device
 pub record Same (depth top : ℕ) (a b : List ℕ → Read State) : Type 0 where
   pub same : (stack : List ℕ) → Stack stack depth top → a stack ≡ b stack
 
--- the reading A of what begins at an index, with a count, goes on at another
-pub record DevicesAt (r : Room) (t : List ℕ) (depth top : ℕ) (A : List ℕ → Read State) (since count : ℕ) (T : plants.Plant) (at k c : ℕ) : Type 0 where
-  pub reads : Same depth top A (from-device r t T at k c)
-  pub at-line : ReadingAt t at k c
+-- where a list of devices may be read from
+pub record ListStart (r : Room) (t : List ℕ) (T : plants.Plant) (p : Place) : Type 0 where
+  pub at-line : ReadingAt t (p .at) (p .line)
+  pub bounded : Bounded r
   pub fits : Fits r T
-  pub holds : c ≤ r .devices
-  pub onward : since ≤ at
-  pub more : count ≤ c
+  pub holds : p .count ≤ r .devices
 
--- it goes on up to line k, which is not a device form
-pub record Stops (r : Room) (t : List ℕ) (depth top : ℕ) (A : List ℕ → Read State) (since count : ℕ) (T : plants.Plant) (f : Form) (at k c : ℕ) : Type 0 where
-  pub reads : Same depth top A (at-form r t T f at k c)
-  pub no-device : level-of f ≡ Missing
-  pub at-line : is-unfinished f ≡ false → ReadingAt t at (k + 1) c
-  pub fits : Fits r T
-  pub holds : c ≤ r .devices
-  pub onward : is-unfinished f ≡ false → since ≤ at
-  pub within : at ≤ length t
-  pub more : count ≤ c
+-- and a device, whose line ends before the place
+pub record DeviceStart (r : Room) (t : List ℕ) (T : plants.Plant) (p : Place) : Type 0 where
+  pub start : ListStart r t T p
+  pub past : p .line ≤ p .at
 
--- a device form of level n at line k is read, whose next line begins at an index
-abbrev pub device-result : Room → List ℕ → plants.Plant → ℕ → ℕ → ℕ → ℕ → ℕ → ℕ → plants.Plant → Ending → Type 0
-device-result r t T n at k count depth top T′ (ending.Refused x l) = Same depth top (at-form r t T (Device n) at k count) (λ stack. no x l)
-device-result r t T n at k count depth top T′ (ending.Ended at′ l c) = DevicesAt r t depth top (at-form r t T (Device n) at k count) at count T′ at′ l c
+-- the reading A of what begins at one place goes on at another
+pub record DevicesAt (r : Room) (t : List ℕ) (depth top : ℕ) (A : List ℕ → Read State) (since : Place) (T : plants.Plant) (p : Place) : Type 0 where
+  pub reads : Same depth top A (from-device r t T p)
+  pub start : ListStart r t T p
+  pub onward : since .at ≤ p .at
+  pub more : since .count ≤ p .count
 
-pub record DeviceRead (r : Room) (t : List ℕ) (T : plants.Plant) (n at k count depth top : ℕ) (T′ : plants.Plant) (e : Ending) : Type 0 where
-  pub result : device-result r t T n at k count depth top T′ e
+-- it goes on up to a line that is not a device's
+pub record Stops (r : Room) (t : List ℕ) (depth top : ℕ) (A : List ℕ → Read State) (since : Place) (T : plants.Plant) (f : Form) (p : Place) : Type 0 where
+  pub reads : Same depth top A (at-form r t T f p)
+  pub no-device : f .kind ≡ device-line → ⊥
+  pub start : ListStart r t T p
+  pub past : (f .kind ≡ unfinished → ⊥) → p .line ≤ p .at
+  pub onward : since .at ≤ p .at
+  pub more : since .count ≤ p .count
 
--- a list of devices is read from an index on
-abbrev pub list-result : Room → List ℕ → plants.Plant → ℕ → ℕ → ℕ → ℕ → ℕ → plants.Plant → Listed → Type 0
-list-result r t T at k count depth top T′ (listed.Refused x l) = Same depth top (from-device r t T at k count) (λ stack. no x l)
-list-result r t T at k count depth top T′ (listed.Stopped f at′ l c) = Stops r t depth top (from-device r t T at k count) at count T′ f at′ l c
+-- the device of level n that opens at the line of a place is read
+abbrev pub device-result : Room → List ℕ → plants.Plant → ℕ → Place → ℕ → ℕ → plants.Plant → Ending → Type 0
+device-result r t T n p depth top T′ (ending.Refused x l) = Same depth top (at-form r t T (with-number device-line n) p) (λ stack. no x l)
+device-result r t T n p depth top T′ (ending.Ended q) = DevicesAt r t depth top (at-form r t T (with-number device-line n) p) p T′ q
 
-pub record ListRead (r : Room) (t : List ℕ) (T : plants.Plant) (at k count depth top : ℕ) (T′ : plants.Plant) (e : Listed) : Type 0 where
-  pub result : list-result r t T at k count depth top T′ e
+pub record DeviceRead (r : Room) (t : List ℕ) (T : plants.Plant) (n : ℕ) (p : Place) (depth top : ℕ) (T′ : plants.Plant) (e : Ending) : Type 0 where
+  pub result : device-result r t T n p depth top T′ e
+
+-- a list of devices is read from a place on
+abbrev pub list-result : Room → List ℕ → plants.Plant → Place → ℕ → ℕ → plants.Plant → Listed → Type 0
+list-result r t T p depth top T′ (listed.Refused x l) = Same depth top (from-device r t T p) (λ stack. no x l)
+list-result r t T p depth top T′ (listed.Stopped f q) = Stops r t depth top (from-device r t T p) p T′ f q
+
+pub record ListRead (r : Room) (t : List ℕ) (T : plants.Plant) (p : Place) (depth top : ℕ) (T′ : plants.Plant) (e : Listed) : Type 0 where
+  pub result : list-result r t T p depth top T′ e

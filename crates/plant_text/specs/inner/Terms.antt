@@ -1,7 +1,6 @@
 -- What the readers of terms and postings promise. The contracts of private functions alone cite this.
-use Prim.Native.Nat.{ℕ, _+_, _<_, _≤_}
+use Prim.Native.Nat.{ℕ, _+_, _≤_}
 use mathlib.Core.Path.{_≡_}
-use mathlib.Core.Bool.{Bool, false}
 use mathlib.Core.List.{List, []}
 use lib.ListN.{length, take, drop}
 use lib.Seq.{slice}
@@ -10,13 +9,14 @@ use Rattle.plant.specs.Plant as plants
 use Rattle.index.specs.Index as indexes
 use Rattle.index.specs.Index.{index}
 use Rattle.index.specs.inner.Lists.{SoundList}
+use Rattle.text.specs.Forms.{unfinished}
 use Rattle.text.specs.Reading.{Read, no}
-use Rattle.plant_text.specs.Form.{is-unfinished}
+use Rattle.text.specs.declared.Form.{Form}
+use Rattle.plant_text.specs.Form.{term-line}
 use Rattle.plant_text.specs.PlantText.{Stage, State, terms, postings, closed, line-refusal, next}
-use Rattle.plant_text.specs.inner.Rest.{from, from-form, ReadingAt}
+use Rattle.plant_text.specs.inner.Rest.{from, from-form, with-number, ReadingAt, Bounded}
 use Rattle.plant_text.specs.declared.Room.{Room}
-use Rattle.plant_text.specs.declared.lines.Form.{Form}
-use Rattle.plant_text.specs.declared.lines.Form.the-variants.{Term, Posting}
+use Rattle.plant_text.specs.declared.lines.Place.{Place}
 use Rattle.plant_text.specs.declared.lines.Ending.{Ending}
 use Rattle.plant_text.specs.declared.lines.Ending.the-variants as ending
 use Rattle.plant_text.specs.declared.terms.Closing.{Closing}
@@ -32,43 +32,48 @@ pub record Before (last : List ℕ) (count begin : ℕ) (m : State) : Type 0 whe
   pub even : length (m .index .starts) ≡ length (m .index .terms)
   pub begun : entry (m .index .starts) (length (m .index .terms)) ≡ begin
 
--- a posting of device d is added, or refused by the number x
-pub record Adds (r : Room) (last posts : List ℕ) (count begin n d : ℕ) (s : Bool) (posts′ : List ℕ) (x : ℕ) : Type 0 where
-  pub refusal-is : (m : State) → Before last count begin m → line-refusal r (posts-made m posts n postings) (Posting d s) ≡ x
-  pub adds : x ≡ 0 → (m : State) → next (posts-made m posts n postings) (Posting d s) ≡ posts-made m posts′ (n + 1) postings
+-- a posting of a kind for device d is added, or refused by the number x
+pub record Adds (r : Room) (last posts : List ℕ) (count begin n kind d : ℕ) (posts′ : List ℕ) (x : ℕ) : Type 0 where
+  pub refusal-is : (m : State) → Before last count begin m → line-refusal r (posts-made m posts n postings) (with-number kind d) ≡ x
+  pub adds : x ≡ 0 → (m : State) → next (posts-made m posts n postings) (with-number kind d) ≡ posts-made m posts′ (n + 1) postings
   pub fits : r .postings ≤ length posts′
   pub holds : x ≡ 0 → n + 1 ≤ r .postings
   pub sound : x ≡ 0 → SoundList (take count last) (slice begin (n + 1) posts′)
 
--- what reading comes to from an index on, with n postings
-abbrev pub from-posting : Room → List ℕ → Stage → List ℕ → ℕ → ℕ → ℕ → State → Read State
-from-posting r t s posts at k n m = from r (posts-made m posts n s) k (drop at t)
+-- what reading comes to from a place on
+abbrev pub from-posting : Room → List ℕ → Stage → List ℕ → Place → State → Read State
+from-posting r t s posts p m = from r (posts-made m posts (p .count) s) (p .line) (drop (p .at) t)
 
 -- two readings are the same, whatever was made before the term's postings
 pub record SamePosts (last : List ℕ) (count begin : ℕ) (a b : State → Read State) : Type 0 where
   pub same : (m : State) → Before last count begin m → a m ≡ b m
 
--- the reading A of what begins at an index goes on at another, at a stage
-pub record PostsAt (r : Room) (t last : List ℕ) (count begin : ℕ) (A : State → Read State) (since : ℕ) (s : Stage) (posts : List ℕ) (at k n : ℕ) : Type 0 where
-  pub reads : SamePosts last count begin A (from-posting r t s posts at k n)
-  pub at-line : ReadingAt t at k n
-  pub counted : count < at
+-- where a term's postings may be read from, in a plant of count devices
+pub record PostsStart (r : Room) (t last posts : List ℕ) (count : ℕ) (p : Place) : Type 0 where
+  pub at-line : ReadingAt t (p .at) (p .line)
+  pub bounded : Bounded r
+  pub devices : count ≤ r .devices
   pub lasts : count ≤ length last
-  pub more : begin ≤ n
   pub fits : r .postings ≤ length posts
-  pub holds : n ≤ r .postings
-  pub onward : since ≤ at
-  pub sound : SoundList (take count last) (slice begin n posts)
+  pub holds : p .count ≤ r .postings
 
--- a term's postings are read from an index on
-abbrev pub posts-result : Room → List ℕ → List ℕ → List ℕ → ℕ → ℕ → ℕ → ℕ → List ℕ → Ending → Type 0
-posts-result r t last posts at k count begin posts′ (ending.Refused x l) =
-    SamePosts last count begin (from-posting r t postings posts at k begin) (λ m. no x l)
-posts-result r t last posts at k count begin posts′ (ending.Ended at′ l n) =
-    PostsAt r t last count begin (from-posting r t postings posts at k begin) (at + 1) terms posts′ at′ l n
+-- the reading A of what begins at an index goes on at a place, at a stage
+pub record PostsAt (r : Room) (t last : List ℕ) (count begin : ℕ) (A : State → Read State) (since : ℕ) (s : Stage) (posts : List ℕ) (p : Place) : Type 0 where
+  pub reads : SamePosts last count begin A (from-posting r t s posts p)
+  pub start : PostsStart r t last posts count p
+  pub more : begin ≤ p .count
+  pub onward : since ≤ p .at
+  pub sound : SoundList (take count last) (slice begin (p .count) posts)
 
-pub record PostsRead (r : Room) (t last posts : List ℕ) (at k count begin : ℕ) (posts′ : List ℕ) (e : Ending) : Type 0 where
-  pub result : posts-result r t last posts at k count begin posts′ e
+-- a term's postings are read from a place on
+abbrev pub posts-result : Room → List ℕ → List ℕ → List ℕ → Place → ℕ → List ℕ → Ending → Type 0
+posts-result r t last posts p count posts′ (ending.Refused x l) =
+    SamePosts last count (p .count) (from-posting r t postings posts p) (λ m. no x l)
+posts-result r t last posts p count posts′ (ending.Ended q) =
+    PostsAt r t last count (p .count) (from-posting r t postings posts p) (p .at + 1) terms posts′ q
+
+pub record PostsRead (r : Room) (t last posts : List ℕ) (p : Place) (count : ℕ) (posts′ : List ℕ) (e : Ending) : Type 0 where
+  pub result : posts-result r t last posts p count posts′ e
 
 -- the first entries of lent index tables: n terms, p postings
 abbrev pub part : ℕ → ℕ → indexes.Index → indexes.Index
@@ -86,9 +91,9 @@ terms-made P X n p s = record { stage = s; opened = []; plant = P; index = part 
 
 -- term n + 1 of number v opens, with p postings before it, or is refused by the number x
 pub record OpensTerm (r : Room) (T S : List ℕ) (n p v : ℕ) (T′ S′ : List ℕ) (x : ℕ) : Type 0 where
-  pub refusal-is : (P : plants.Plant) (L : List ℕ) → line-refusal r (terms-made P (index T S L) n p terms) (Term v) ≡ x
+  pub refusal-is : (P : plants.Plant) (L : List ℕ) → line-refusal r (terms-made P (index T S L) n p terms) (with-number term-line v) ≡ x
   pub opens : x ≡ 0 → (P : plants.Plant) (L : List ℕ) → p ≤ length L →
-      next (terms-made P (index T S L) n p terms) (Term v) ≡ terms-made P (index T′ S′ L) (n + 1) p postings
+      next (terms-made P (index T S L) n p terms) (with-number term-line v) ≡ terms-made P (index T′ S′ L) (n + 1) p postings
   pub terms : r .terms ≤ length T′
   pub starts : r .terms ≤ length S′
   pub holds : x ≡ 0 → n + 1 ≤ r .terms
@@ -98,40 +103,42 @@ pub record OpensTerm (r : Room) (T S : List ℕ) (n p v : ℕ) (T′ S′ : List
 pub record SameTerms (last : List ℕ) (count : ℕ) (a b : plants.Plant → Read State) : Type 0 where
   pub same : (P : plants.Plant) → P .last ≡ take count last → a P ≡ b P
 
--- what reading comes to where line k is of a form and the next begins at an index
-abbrev pub at-term : Room → List ℕ → indexes.Index → Form → ℕ → ℕ → ℕ → ℕ → plants.Plant → Read State
-at-term r t X f at k n p P = from-form r (terms-made P X n p terms) f k (drop at t)
+-- what reading comes to where a place's line is of a form, with n terms
+abbrev pub at-term : Room → List ℕ → indexes.Index → Form → ℕ → Place → plants.Plant → Read State
+at-term r t X f n p P = from-form r (terms-made P X n (p .count) terms) f (p .line) (drop (p .at) t)
 
--- the reading A goes on up to line k, which is of a form, with n terms and p postings
-pub record TermsAt (r : Room) (t last : List ℕ) (count : ℕ) (A : plants.Plant → Read State) (X : indexes.Index) (f : Form) (at k n p : ℕ) : Type 0 where
-  pub reads : SameTerms last count A (at-term r t X f at k n p)
-  pub at-line : is-unfinished f ≡ false → ReadingAt t at (k + 1) p
-  pub counted : is-unfinished f ≡ false → count < at
-  pub within : at ≤ length t
-  pub lasts : count ≤ length last
+-- the reading A goes on up to a line of a form, with n terms, after which it goes on at a place
+pub record TermsAt (r : Room) (t last : List ℕ) (count : ℕ) (A : plants.Plant → Read State) (X : indexes.Index) (f : Form) (n : ℕ) (p : Place) : Type 0 where
+  pub reads : SameTerms last count A (at-term r t X f n p)
+  pub start : PostsStart r t last (X .postings) count p
+  pub past : (f .kind ≡ unfinished → ⊥) → p .line ≤ p .at
   pub fits : FitsIndex r X
   pub terms : n ≤ r .terms
-  pub postings : p ≤ r .postings
 
 -- the plant is closed
-pub record ClosedAt (r : Room) (t last : List ℕ) (count : ℕ) (A : plants.Plant → Read State) (X : indexes.Index) (at k n p : ℕ) : Type 0 where
-  pub reads : SameTerms last count A (λ P. from r (terms-made P X n p closed) k (drop at t))
-  pub within : at ≤ length t
+pub record ClosedAt (r : Room) (t last : List ℕ) (count : ℕ) (A : plants.Plant → Read State) (X : indexes.Index) (n : ℕ) (p : Place) : Type 0 where
+  pub reads : SameTerms last count A (λ P. from r (terms-made P X n (p .count) closed) (p .line) (drop (p .at) t))
   pub fits : FitsIndex r X
   pub terms : n ≤ r .terms
-  pub postings : p ≤ r .postings
+  pub postings : p .count ≤ r .postings
 
--- terms are read from line k on, which is of a form
-abbrev pub terms-result : Room → List ℕ → List ℕ → ℕ → indexes.Index → Form → ℕ → ℕ → indexes.Index → Closing → Type 0
-terms-result r t last count X f at k X′ (closing.Refused x l) = SameTerms last count (at-term r t X f at k 0 0) (λ P. no x l)
-terms-result r t last count X f at k X′ (closing.Closed at′ l n p) = ClosedAt r t last count (at-term r t X f at k 0 0) X′ at′ l n p
+-- reading begins with no term and no posting at the index and the line of a place
+abbrev pub none-at : Place → Place
+none-at p = record { at = p .at; line = p .line; count = 0 }
 
-pub record TermsRead (r : Room) (t last : List ℕ) (count : ℕ) (X : indexes.Index) (f : Form) (at k : ℕ) (X′ : indexes.Index) (e : Closing) : Type 0 where
-  pub result : terms-result r t last count X f at k X′ e
+-- terms are read from a line of a form on, in a plant of as many devices as a place counts
+abbrev pub terms-result : Room → List ℕ → List ℕ → indexes.Index → Form → Place → indexes.Index → Closing → Type 0
+terms-result r t last X f p X′ (closing.Refused x l) = SameTerms last (p .count) (at-term r t X f 0 (none-at p)) (λ P. no x l)
+terms-result r t last X f p X′ (closing.Closed n q) = ClosedAt r t last (p .count) (at-term r t X f 0 (none-at p)) X′ n q
+
+pub record TermsRead (r : Room) (t last : List ℕ) (X : indexes.Index) (f : Form) (p : Place) (X′ : indexes.Index) (e : Closing) : Type 0 where
+  pub result : terms-result r t last X f p X′ e
 
 -- where terms may be read from
-pub record TermsStart (r : Room) (t last : List ℕ) (count : ℕ) (X : indexes.Index) (f : Form) (at k : ℕ) : Type 0 where
-  pub at-line : is-unfinished f ≡ false → ReadingAt t at (k + 1) count
-  pub within : at ≤ length t
-  pub lasts : count ≤ length last
+pub record TermsStart (r : Room) (t last : List ℕ) (X : indexes.Index) (f : Form) (p : Place) : Type 0 where
+  pub at-line : ReadingAt t (p .at) (p .line)
+  pub bounded : Bounded r
+  pub devices : p .count ≤ r .devices
+  pub lasts : p .count ≤ length last
+  pub past : (f .kind ≡ unfinished → ⊥) → p .line ≤ p .at
   pub fits : FitsIndex r X

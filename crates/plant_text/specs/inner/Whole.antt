@@ -5,25 +5,12 @@ use mathlib.Core.List.{List}
 use Rattle.plant.specs.Plant as plants
 use Rattle.index.specs.Index as indexes
 use Rattle.text.specs.Reading.{Read, made, no}
-use Rattle.plant_text.specs.PlantText.{State, closed, read-plant}
+use Rattle.plant_text.specs.PlantText.{State, closed, read-plant, outcome-values}
 use Rattle.plant_text.specs.inner.Devices.{front}
 use Rattle.plant_text.specs.inner.Terms.{terms-made}
 use Rattle.plant_text.specs.declared.Room.{Room}
 use Rattle.plant_text.specs.declared.Outcome.{Outcome}
 use Rattle.plant_text.specs.declared.Outcome.the-variants as outcome
-
--- the counts of devices, terms and postings: 0 where the text is refused
-abbrev pub devices-in : Outcome → ℕ
-devices-in (outcome.Made d n p) = d
-devices-in (outcome.Refused x k) = 0
-
-abbrev pub terms-in : Outcome → ℕ
-terms-in (outcome.Made d n p) = n
-terms-in (outcome.Refused x k) = 0
-
-abbrev pub postings-in : Outcome → ℕ
-postings-in (outcome.Made d n p) = p
-postings-in (outcome.Refused x k) = 0
 
 -- what an outcome says with the tables' front entries
 abbrev pub says : plants.Plant → indexes.Index → Outcome → Read State
@@ -33,6 +20,6 @@ says T X (outcome.Made d n p) = made (terms-made (front d T) X n p closed)
 -- the tables' front entries are what the text made
 pub record ReadAll (r : Room) (t : List ℕ) (T : plants.Plant) (X : indexes.Index) (o : Outcome) : Type 0 where
   pub means : read-plant r t ≡ says T X o
-  pub devices : devices-in o ≤ r .devices
-  pub terms : terms-in o ≤ r .terms
-  pub postings : postings-in o ≤ r .postings
+  pub devices : outcome-values o .devices ≤ r .devices
+  pub terms : outcome-values o .terms ≤ r .terms
+  pub postings : outcome-values o .postings ≤ r .postings

@@ -1,34 +1,35 @@
 -- The cycle of calls {device, devices}. A device's list is read from where the device's own line ends, and a device of a list from after the
 -- list's start, so with twice the bytes left, a device's measure is one above its list's.
-use Prim.Native.Nat.{ℕ, _+_, _-_, _*_, _<_}
+use Prim.Native.Nat.{ℕ, _+_, _-_, _*_, _<_, _≤_}
 use mathlib.Core.Path.{_∙_}
 use borrow.Author.Needs.{needs}
 use borrow.Fn.Kinds.{In}
 use borrow.Fn.PlainCycle.{Measures, is, falls, and}
 use native.Mathlib.Omega.{arith}
-use lib.ListN.{length, length-set}
+use lib.ListN.{length}
 use Rattle.plant.specs.Plant.{plant}
 use Rattle.plant_text.specs.inner.Devices.{DevicesAt, from-device}
-use Rattle.plant_text.proofs.Nesting.{PlantSizes, list-start, list-stop, list-refused, list-more, list-onward, device-moves, device-at-line, device-barred, device-refused, device-open, device-ended, close-at-line}
+use Rattle.plant_text.proofs.Nesting.{PlantSizes, list-start, list-stop, list-refused, list-more, list-onward, device-moves, device-start, open-fits, inside-start, device-barred, device-refused, device-open, close-ready, device-ended}
 use Rattle.plant_text.proofs.devices.device.Reads as device
 use Rattle.plant_text.proofs.devices.device.Kinds as device-kinds
 use Rattle.plant_text.proofs.devices.+device+devices.Lts-device as device-lts
 use Rattle.plant_text.proofs.devices.devices.Reads as devices
 use Rattle.plant_text.proofs.devices.devices.Kinds as devices-kinds
 use Rattle.plant_text.proofs.devices.+device+devices.Lts-devices as devices-lts
+use Rattle.plant_text.proofs.devices.close_device.Reads as close-device-reads
+use Rattle.plant_text.proofs.devices.device_refusal.Reads as device-refusal-reads
 use Rattle.plant_text.proofs.devices.open_device.Reads as open-device-reads
 use Rattle.plant_text.proofs.devices.outer.Reads as outer-reads
 use Rattle.plant_text.proofs.lines.end_refusal.Reads as end-refusal-reads
-use Rattle.plant_text.proofs.lines.level_of.Reads as level-of-reads
 use Rattle.plant_text.proofs.lines.line_at.Reads as line-at-reads
 use Rattle.plant_text.proofs.devices.+device+devices.{statement}
 use Rattle.plant_text.proofs.devices.+device+devices.Tie.{close}
 
 abbrev μ-device : Measures 4 device-kinds.ps ℕ
-μ-device κs a = 2 * (length (a .0 .now) - a .1 .1 .0) + 1
+μ-device κs a = 2 * (length (a .0 .now) - a .1 .1 .0 .at) + 1
 
 abbrev μ-devices : Measures 4 devices-kinds.ps ℕ
-μ-devices κs a = 2 * (length (a .0 .now) - a .1 .1 .0)
+μ-devices κs a = 2 * (length (a .0 .now) - a .1 .1 .0 .at)
 
 abbrev device-at : ℕ → In 4 device-kinds.ps
 device-at t = and 4 device-kinds.ps (is 4 device-kinds.ps μ-device t) device.Pre
@@ -45,6 +46,8 @@ devices-below t = and 4 devices-kinds.ps (falls 4 devices-kinds.ps _<_ μ-device
 -- what each may use of the functions that it calls
 abbrev device-calls : ℕ → device-lts.Claims
 device-calls t = (
+  device-refusal-reads.Asked,
+  device-refusal-reads.Learnt,
   outer-reads.Asked,
   outer-reads.Learnt,
   open-device-reads.Asked,
@@ -53,120 +56,155 @@ device-calls t = (
   devices.Post,
   end-refusal-reads.Asked,
   end-refusal-reads.Learnt,
+  close-device-reads.Asked,
+  close-device-reads.Learnt,
 )
 
 abbrev devices-calls : ℕ → devices-lts.Claims
-devices-calls t = (line-at-reads.Asked, line-at-reads.Learnt, level-of-reads.Asked, level-of-reads.Learnt, device-below t, device.Post)
+devices-calls t = (line-at-reads.Asked, line-at-reads.Learnt, device-below t, device.Post)
 
--- device: where its list has been read, and where it was opened before that
-abbrev listed : (t : ℕ) → device-lts.After-end-refusal (device-calls t) (device-at t) device.Post → device-lts.After-devices (device-calls t) (device-at t) device.Post
-listed t c = c .before .before .before .before .before .before .before .before .before .before
+module _ (t : ℕ) where
+  -- device: past its tests; where its tables are opened; where its list is read; where it may end
+  abbrev tested : device-lts.After-open-device (device-calls t) (device-at t) device.Post → device-lts.Else1 (device-calls t) (device-at t) device.Post
+  tested c = c .before .before .before .before .before
 
-abbrev opened : (t : ℕ) → device-lts.After-devices (device-calls t) (device-at t) device.Post → device-lts.After-open-device (device-calls t) (device-at t) device.Post
-opened t c = c .before .before .before .before .before .before .before .before .before .before .before
+  abbrev opened : device-lts.After-devices (device-calls t) (device-at t) device.Post → device-lts.After-open-device (device-calls t) (device-at t) device.Post
+  opened c = c .before .before .before .before .before .before .before .before .before .before
 
-device-returns : (t : ℕ) → device-lts.Need-returns (device-calls t) (device-at t) device.Post
-device-returns t c = search (device-barred, needs)
+  abbrev read : device-lts.After-end-refusal (device-calls t) (device-at t) device.Post → device-lts.After-devices (device-calls t) (device-at t) device.Post
+  read c = c .before .before .before .before .before .before .before .before .before .before
 
-device-add-devices-3 : (t : ℕ) → device-lts.Need-add-devices-3 (device-calls t) (device-at t) device.Post
-device-add-devices-3 t c =
-    omega (arith, c .before .before .before .before .before .before .before .open-device .ensures .shallow (c .if1 .left))
+  -- what is known past the tests
+  passed : (c : device-lts.Else1 (device-calls t) (device-at t) device.Post) → let p = c .before .before .before .before .before .before in
+      (p .args .n ≤ 255) × (p .args .depth < 32) × (p .args .place .count < p .args .room .devices) × (p .args .room .devices ≤ 65535)
+  passed c =
+      let p = c .before .before .before .before .before .before in
+      let f = open-fits (p .args .text .now) (p .args .place) (p .args .depth) (p .args .top) (p .args .n) (c .before .device-refusal .ensures) (p .pre .1) (c .if1 .left) in
+      (f .0, f .1, f .2, p .pre .1 .start .bounded .devices)
 
-device-devices-requires : (t : ℕ) → device-lts.Need-devices-requires (device-calls t) (device-at t) device.Post
-device-devices-requires t c κs =
-    let p = c .before .before .before .before .before .before .before .before .before .before .before .before .before .before .before .before .before .before .before .pre in
-    let o = c .before .before .before .before .before .before .before .before .before .before .open-device .ensures in
-    (omega (arith, p .0), (p .1 .0, (o .fits, o .holds (c .before .before .before .if1 .left))))
+  device-returns : device-lts.Need-returns (device-calls t) (device-at t) device.Post
+  device-returns c = device-barred _ _ _ _ _ (c .before .device-refusal .ensures) (c .before .before .before .before .before .before .pre .1) (c .if1 .taken)
 
-device-add-end-refusal : (t : ℕ) → device-lts.Need-add-end-refusal (device-calls t) (device-at t) device.Post
-device-add-end-refusal t c =
-    omega (arith, c .before .before .before .before .before .before .before .before .before .before .before .before .before .before .before .before .before .before .before .before .open-device .ensures .shallow (c .before .before .before .before .before .before .before .before .before .before .before .before .before .if1 .left))
+  device-cast-own : device-lts.Need-cast-own (device-calls t) (device-at t) device.Post
+  device-cast-own c = omega (arith, passed c)
 
-device-returns-2 : (t : ℕ) → device-lts.Need-returns-2 (device-calls t) (device-at t) device.Post
-device-returns-2 t c =
-    let l = listed t (c .before) in
-    let o = opened t l in
-    device-open _ _ _ _ (o .open-device .ensures) (l .before .before .before .before .if1 .left) (o .before .before .before .before .outer .ensures) (l .devices .ensures) (c .before .before .before .inside2 .given .1)
-    (c .before .end-refusal .ensures) (c .if2 .taken)
+  device-open-device-requires : device-lts.Need-open-device-requires (device-calls t) (device-at t) device.Post
+  device-open-device-requires c κs =
+      let e = c .before .before .before .before in
+      let s = e .before .before .before .before .before .before .pre .1 .start in
+      omega (arith, passed e, s .fits .last, s .fits .root, s .fits .level)
 
-device-cast-end : (t : ℕ) → device-lts.Need-cast-end (device-calls t) (device-at t) device.Post
-device-cast-end t c =
-    let s = close-at-line (listed t (c .before) .devices .ensures) (c .before .before .before .inside2 .given .1) (c .before .before .before .before .before .before .before .before .before .before .before .before .before .before .before .before .before .before .before .before .before .before .before .before .before .before .before .before .before .before .before .args .depth + 2) (c .before .end-refusal .ensures) (c .if2 .left) in
-    omega (arith, s .0 .counted, s .0 .within, s .0 .fits)
+  device-add-devices-2 : device-lts.Need-add-devices-2 (device-calls t) (device-at t) device.Post
+  device-add-devices-2 c = omega (arith, passed (tested (c .before .before .before .before .before .before)))
 
-device-mul-last : (t : ℕ) → device-lts.Need-mul-last (device-calls t) (device-at t) device.Post
-device-mul-last t c =
-    let s = close-at-line (listed t (c .before) .devices .ensures) (c .before .before .before .inside2 .given .1) (c .before .before .before .before .before .before .before .before .before .before .before .before .before .before .before .before .before .before .before .before .before .before .before .before .before .before .before .before .before .before .before .args .depth + 2) (c .before .end-refusal .ensures) (c .if2 .left) in
-    omega (arith, s .0 .counted, s .0 .within, s .0 .fits, s .1)
+  device-devices-requires : device-lts.Need-devices-requires (device-calls t) (device-at t) device.Post
+  device-devices-requires c κs =
+      let o = c .before .before .before .before .before .before .before .before .before in
+      let e = tested o in
+      let p = e .before .before .before .before .before .before in (
+        omega (arith, p .pre .0),
+        inside-start (p .args .text .now) (p .args .place) (p .args .depth) (p .args .top) (p .args .n) (e .before .device-refusal .ensures) (p .pre .1) (e .if1 .left)
+            (o .before .before .before .before .outer .ensures) (o .open-device .ensures),
+      )
 
-device-slice-write-last : (t : ℕ) → device-lts.Need-slice-write-last (device-calls t) (device-at t) device.Post
-device-slice-write-last t c =
-    let s = close-at-line (listed t (c .before) .devices .ensures) (c .before .before .before .inside2 .given .1) (c .before .before .before .before .before .before .before .before .before .before .before .before .before .before .before .before .before .before .before .before .before .before .before .before .before .before .before .before .before .before .before .args .depth + 2) (c .before .end-refusal .ensures) (c .if2 .left) in
-    omega (arith, s .1, s .2, s .3 .last)
+  device-add-end-refusal : device-lts.Need-add-end-refusal (device-calls t) (device-at t) device.Post
+  device-add-end-refusal c = omega (arith, passed (tested (opened (c .before .before .before .before .before .before .before .before .before))))
 
-device-add-t41 : (t : ℕ) → device-lts.Need-add-t41 (device-calls t) (device-at t) device.Post
-device-add-t41 t c =
-    let s = close-at-line (listed t (c .before) .devices .ensures) (c .before .before .before .inside2 .given .1) (c .before .before .before .before .before .before .before .before .before .before .before .before .before .before .before .before .before .before .before .before .before .before .before .before .before .before .before .before .before .before .before .args .depth + 2) (c .before .end-refusal .ensures) (c .if2 .left) in
-    omega (arith, s .0 .lined, s .0 .within, s .0 .fits)
+  device-returns-2 : device-lts.Need-returns-2 (device-calls t) (device-at t) device.Post
+  device-returns-2 c =
+      let l = read (c .before) in
+      let o = opened l in
+      let e = tested o in
+      device-open _ _ _ _ _ (e .before .device-refusal .ensures) (e .before .before .before .before .before .before .pre .1) (e .if1 .left) (o .before .before .before .before .outer .ensures) (o .open-device .ensures) (l .devices .ensures)
+      (c .before .before .before .f .given .1) (c .before .end-refusal .ensures) (c .if2 .taken)
 
-device-returns-3 : (t : ℕ) → device-lts.Need-returns-3 (device-calls t) (device-at t) device.Post
-device-returns-3 t c = search (device-refused, needs)
+  device-close-device-requires : device-lts.Need-close-device-requires (device-calls t) (device-at t) device.Post
+  device-close-device-requires c κs =
+      let l = read (c .before .before) in
+      let o = opened l in
+      let e = tested o in
+      let p = e .before .before .before .before .before .before in
+      close-ready (p .args .text .now) (p .args .place) (p .args .depth) (p .args .top) (p .args .n) (e .before .device-refusal .ensures) (p .pre .1) (e .if1 .left)
+      (o .before .before .before .before .outer .ensures) (o .open-device .ensures) (l .devices .ensures) (c .before .before .before .before .f .given .1) (c .before .before .end-refusal .ensures)
 
-device-same-length-10 : (t : ℕ) → device-lts.Need-same-length-10 (device-calls t) (device-at t) device.Post
-device-same-length-10 t c =
-    let l = listed t (c .before) in simp length-set (l .devices .kept .1 .1 .1 .1 .1 .1 .1 .0 ∙ opened t l .open-device .kept .1 .1 .1 .1 .1 .0)
+  device-returns-3 : device-lts.Need-returns-3 (device-calls t) (device-at t) device.Post
+  device-returns-3 c =
+      let l = c .before .before .before .before .before .before .before .before .before in
+      let o = opened l in
+      let e = tested o in
+      device-refused _ _ _ _ _ (e .before .device-refusal .ensures) (e .before .before .before .before .before .before .pre .1) (e .if1 .left) (o .before .before .before .before .outer .ensures) (o .open-device .ensures) (l .devices .ensures)
+      (c .before .y .given .1)
 
-device-returns-4 : (t : ℕ) → device-lts.Need-returns-4 (device-calls t) (device-at t) device.Post
-device-returns-4 t c =
-    let l = listed t (c .before) in
-    let o = opened t l in
-    device-ended _ _ _ _ (o .open-device .ensures) (l .before .before .before .before .if1 .left) (o .before .before .before .before .outer .ensures) (l .devices .ensures) (c .before .before .before .inside2 .given .1)
-    (c .before .end-refusal .ensures) (c .if2 .left)
+  device-returns-4 : device-lts.Need-returns-4 (device-calls t) (device-at t) device.Post
+  device-returns-4 c =
+      let d = c .before .before in
+      let r = d .before .before .before in
+      let l = read r in
+      let o = opened l in
+      let e = tested o in
+      device-ended _ _ _ _ _ (e .before .device-refusal .ensures) (e .before .before .before .before .before .before .pre .1) (e .if1 .left) (o .before .before .before .before .outer .ensures) (o .open-device .ensures) (l .devices .ensures)
+      (r .before .before .f .given .1) (r .end-refusal .ensures) (d .before .before .if2 .left) (d .close-device .ensures .0) (d .close-device .ensures .1)
 
 -- devices: what has been read of the list, in tables of the same sizes
 abbrev Inv : devices-lts.InvT-loop
-Inv text room at line count depth top last₀ root₀ level₀ a₀ k₀ c₀ last root level a k c =
-    DevicesAt room text depth top (from-device room text (plant last₀ root₀ level₀) at line count) at count (plant last root level) a k c
+Inv text room depth top last₀ root₀ level₀ p₀ last root level p =
+    DevicesAt room text depth top (from-device room text (plant last₀ root₀ level₀) p₀) p₀ (plant last root level) p
     × PlantSizes (plant last₀ root₀ level₀) (plant last root level)
 
 abbrev μ : devices-lts.MeasureT-loop
-μ text room at line count depth top last₀ root₀ level₀ a₀ k₀ c₀ last root level a k c = length text - a
+μ text room depth top last₀ root₀ level₀ p₀ last root level p = length text - p .at
 
-devices-loop-holds : (t : ℕ) → devices-lts.Need-loop-holds (devices-calls t) (devices-at t) devices.Post Inv μ
-devices-loop-holds t c = (search (list-start, needs), search needs)
+module _ (t : ℕ) where
+  -- where the line of a device is found, before the device is read
+  abbrev found : devices-lts.After-device (devices-calls t) (devices-at t) devices.Post Inv μ → devices-lts.After-line-at (devices-calls t) (devices-at t) devices.Post Inv μ
+  found c = c .before .before .before .before .before .before .before
 
-devices-returns : (t : ℕ) → devices-lts.Need-returns (devices-calls t) (devices-at t) devices.Post Inv μ
-devices-returns t c = record { result = search (list-stop, needs) }
+  devices-loop-holds : devices-lts.Need-loop-holds (devices-calls t) (devices-at t) devices.Post Inv μ
+  devices-loop-holds c = (search (list-start, needs), search needs)
 
-devices-device-requires : (t : ℕ) → devices-lts.Need-device-requires (devices-calls t) (devices-at t) devices.Post Inv μ
-devices-device-requires t c κs =
-    let e = c .before .before .before .before .before .before .before .before .loop .inv .0 in
-    let x = c .before .before .before .before .before .before .before .line-at .ensures in
-    let q = c .before .before .before .before .before .before .level-of .ensures in
-    let v = c .before .before .before .before .n .given .1 in
-    (omega (arith, device-moves e x q v, x .within, e .onward, c .before .before .before .before .before .before .before .before .before .before .before .before .before .pre .0), (device-at-line e x q v, (e .fits, e .holds)))
+  devices-line-at-requires : devices-lts.Need-line-at-requires (devices-calls t) (devices-at t) devices.Post Inv μ
+  devices-line-at-requires c κs = c .loop .inv .0 .start .at-line .within
 
-devices-returns-2 : (t : ℕ) → devices-lts.Need-returns-2 (devices-calls t) (devices-at t) devices.Post Inv μ
-devices-returns-2 t c =
-    record { result = list-refused (c .before .before .before .before .before .before .before .before .before .before .before .before .before .before .before .before .before .before .loop .inv .0) (c .before .before .before .before .before .before .before .before .before .before .before .before .before .before .before .before .before .line-at .ensures) (c .before .before .before .before .before .before .before .before .before .before .before .before .before .before .before .before .level-of .ensures) (c .before .before .before .before .before .before .before .before .before .before .before .before .before .before .n .given .1) (c .before .before .before .before .before .before .before .before .before .device .ensures) (c .before .x .given .1) }
+  devices-returns : devices-lts.Need-returns (devices-calls t) (devices-at t) devices.Post Inv μ
+  devices-returns c = record { result = list-stop (c .before .before .before .before .loop .inv .0) (c .before .before .before .line-at .ensures) (c .if1 .taken) }
 
-devices-loop-less : (t : ℕ) → devices-lts.Need-loop-less (devices-calls t) (devices-at t) devices.Post Inv μ
-devices-loop-less t c =
-    omega (arith, list-onward (c .before .before .before .before .before .before .before .before .before .before .before .before .before .before .before .before .before .before .loop .inv .0) (c .before .before .before .before .before .before .before .before .before .before .before .before .before .before .before .before .before .line-at .ensures) (c .before .before .before .before .before .before .before .before .before .before .before .before .before .before .before .before .level-of .ensures) (c .before .before .before .before .before .before .before .before .before .before .before .before .before .before .n .given .1) (c .before .before .before .before .before .before .before .before .before .device .ensures) (c .before .b .given .1))
+  devices-device-requires : devices-lts.Need-device-requires (devices-calls t) (devices-at t) devices.Post Inv μ
+  devices-device-requires c κs =
+      let f = c .before .before .before .before .before .before in
+      let e = f .before .loop .inv .0 in
+      let s = device-start e (f .line-at .ensures) (c .before .before .before .if1 .left) in
+      (omega (arith, device-moves e (f .line-at .ensures) (c .before .before .before .if1 .left), s .start .at-line .within, e .onward, f .before .before .before .before .before .before .pre .0), s)
 
-devices-loop-again : (t : ℕ) → devices-lts.Need-loop-again (devices-calls t) (devices-at t) devices.Post Inv μ
-devices-loop-again t c = (search (list-more, needs), search needs)
+  devices-returns-2 : devices-lts.Need-returns-2 (devices-calls t) (devices-at t) devices.Post Inv μ
+  devices-returns-2 c =
+      let d = c .before .before .before .before .before .before .before .before .before in
+      let f = found d in
+      record { result = list-refused (f .before .loop .inv .0) (f .line-at .ensures) (d .before .before .before .before .if1 .left) (d .device .ensures) (c .before .x .given .1) }
+
+  devices-loop-less : devices-lts.Need-loop-less (devices-calls t) (devices-at t) devices.Post Inv μ
+  devices-loop-less c =
+      let d = c .before .before .before .before .before .before .before .before .before in
+      let f = found d in
+      omega (arith, list-onward (f .before .loop .inv .0) (f .line-at .ensures) (d .before .before .before .before .if1 .left) (d .device .ensures) (c .before .q .given .1))
+
+  devices-loop-again : devices-lts.Need-loop-again (devices-calls t) (devices-at t) devices.Post Inv μ
+  devices-loop-again c =
+      let d = c .before .before .before .before .before .before .before .before .before in
+      let f = found d in
+      let z = f .before .loop .inv .1 in
+      let k = d .device .kept .1 .1 .1 .1 .1 .1 in
+      (list-more (f .before .loop .inv .0) (f .line-at .ensures) (d .before .before .before .before .if1 .left) (d .device .ensures) (c .before .q .given .1), record { last = k .0 ∙ z .last; root = k .1 .0 ∙ z .root; level = k .1 .1 .0 ∙ z .level })
 
 pub +device+devices-spec : {M : Type 1} → statement M
 +device+devices-spec =
     close μ-device μ-devices
     (λ t. device-lts.spec (device-calls t) (device-at t) device.Post
-    (λ c. search needs) (λ c. search needs) (λ c κs. search needs) (λ c κs. search needs) (λ c. search needs) (λ c. search needs) (λ c. search needs)
-    (device-returns t) (λ c. search needs) (λ c. search needs) (device-add-devices-3 t) (device-devices-requires t) (λ c. search needs) (λ c. search needs)
-    (device-add-end-refusal t) (λ c κs. search needs) (λ c. search needs) (λ c. search needs) (λ c. search needs) (device-returns-2 t) (device-cast-end t)
-    (device-mul-last t) (device-slice-write-last t) (device-add-t41 t) (λ c. search needs) (λ c. search needs) (λ c. search needs) (device-returns-3 t)
-    (device-same-length-10 t) (λ c. search needs) (λ c. search needs) (device-returns-4 t))
+    (λ c κs. search needs) (device-returns t) (λ c. search needs) (device-cast-own t) (λ c κs. search needs) (device-open-device-requires t)
+    (λ c. search needs) (λ c. search needs) (device-add-devices-2 t) (device-devices-requires t) (λ c. search needs) (λ c. search needs)
+    (device-add-end-refusal t) (λ c κs. search needs) (λ c. search needs) (λ c. search needs) (λ c. search needs) (device-returns-2 t)
+    (device-close-device-requires t) (λ c. search needs) (λ c. search needs) (λ c. search needs) (device-returns-3 t) (λ c. search needs)
+    (λ c. search needs) (λ c. search needs) (device-returns-4 t))
     (λ t. devices-lts.spec (devices-calls t) (devices-at t) devices.Post Inv μ
-    (devices-loop-holds t) (λ c κs. search needs) (λ c κs. search needs) (λ c. search needs) (λ c. search needs) (λ c. search needs) (λ c. search needs)
-    (λ c. search needs) (devices-returns t) (devices-device-requires t) (λ c. search needs) (λ c. search needs) (λ c. search needs) (λ c. search needs)
-    (devices-returns-2 t) (λ c. search needs) (devices-loop-less t) (devices-loop-again t))
+    (devices-loop-holds t) (devices-line-at-requires t) (λ c. search needs) (λ c. search needs) (λ c. search needs) (devices-returns t)
+    (devices-device-requires t) (λ c. search needs) (λ c. search needs) (λ c. search needs) (λ c. search needs) (devices-returns-2 t) (λ c. search needs)
+    (devices-loop-less t) (devices-loop-again t))

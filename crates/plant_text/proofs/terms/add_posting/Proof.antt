@@ -10,7 +10,7 @@ use native.Mathlib.Omega.{arith}
 fits : (c : tie.Else1) → let a = c .before .before .before .before .before .before .before .args in (1 ≤ a .d) × (a .d ≤ a .count) × (a .n < a .room .postings)
 fits c =
     let a = c .before .before .before .before .before .before .before .args in
-    let h = c .before .before .before .before .before .before .before .pre in
+    let h = c .before .before .before .before .before .before .before .pre .1 in
     let f = post-fits (a .room) (a .last .now) (a .postings .now) (a .count) (a .begin) (a .n) (h .0 .0) (h .0 .2) (h .0 .3) (h .0 .4) (h .1)
     (c .before .before .before .newest-posting .ensures) (a .d) (c .before .before .reach-of .ensures) (c .before .posting-refusal .ensures) (c .if1 .left) in
     (f .0, f .1, f .2)

@@ -1,6 +1,6 @@
 -- `plant_text::terms::posting_refusal` meets its contract.
+use Rattle.laws.proofs.Rows.{pick-or}
 use Rattle.laws.proofs.Tests.{tests, flags}
-use Rattle.plant_text.proofs.Reading.{pick-or}
 use Rattle.plant_text.proofs.terms.posting_refusal.Statement.{statement}
 use Rattle.plant_text.proofs.terms.posting_refusal.Tie as tie
 

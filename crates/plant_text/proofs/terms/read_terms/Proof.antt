@@ -6,88 +6,92 @@ use native.Mathlib.Omega.{arith}
 use lib.ListN.{length}
 use Rattle.index.specs.Index.{index}
 use Rattle.plant_text.specs.inner.Terms.{TermsAt, at-term}
-use Rattle.plant_text.proofs.Index.{IndexSizes, terms-start, terms-refused, closing-at-line, terms-closed, term-at-line, term-refused, postings-refused, ended-within, terms-more}
+use Rattle.plant_text.proofs.Index.{IndexSizes, terms-start, terms-refused, terms-closed, term-ready, posts-ready, term-refused, postings-refused, ended-within, terms-onward, terms-more}
 use Rattle.plant_text.proofs.terms.read_terms.Statement.{statement}
 use Rattle.plant_text.proofs.terms.read_terms.Tie as tie
 
-abbrev Inv-loop : tie.InvT-loop
-Inv-loop text room next line count last terms₀ starts₀ postings₀ f₀ a₀ k₀ n₀ p₀ terms starts postings f a k n p =
-    TermsAt room text last count (at-term room text (index terms₀ starts₀ postings₀) f₀ next line 0 0) (index terms starts postings) f a k n p
+abbrev Inv : tie.InvT-loop
+Inv text room last terms₀ starts₀ postings₀ count f₀ n₀ p₀ terms starts postings f n p =
+    TermsAt room text last count (at-term room text (index terms₀ starts₀ postings₀) f₀ 0 p₀) (index terms starts postings) f n p
     × IndexSizes (index terms₀ starts₀ postings₀) (index terms starts postings)
 
-abbrev μ-loop : tie.MeasureT-loop
-μ-loop text room next line count last terms₀ starts₀ postings₀ f₀ a₀ k₀ n₀ p₀ terms starts postings f a k n p = length text - a
+abbrev μ : tie.MeasureT-loop
+μ text room last terms₀ starts₀ postings₀ count f₀ n₀ p₀ terms starts postings f n p = length text - p .at
 
-loop-holds : tie.Need-loop-holds Inv-loop μ-loop
+-- the turn's start, from where a term is opened; where it is opened, from where its postings are read
+abbrev turn : tie.After-open-term Inv μ → tie.At-loop Inv μ
+turn c = c .before .before .before .before .before
+
+abbrev opened : tie.After-read-postings Inv μ → tie.After-open-term Inv μ
+opened c = c .before .before .before .before .before .before .before
+
+loop-holds : tie.Need-loop-holds Inv μ
 loop-holds c = (search (terms-start, needs), search needs)
 
-returns : tie.Need-returns Inv-loop μ-loop
-returns c =
-    record { result = terms-refused (c .before .before .before .before .before .loop .inv .0) (c .before .before .before .before .term-of .ensures) (c .before .before .enum-told .given .1) (c .before .end-refusal .ensures) (c .if1 .taken) }
+add-t21 : tie.Need-add-t21 Inv μ
+add-t21 c = let s = c .loop .inv .0 .start .at-line in omega (arith, s .lined, s .within, s .fits)
 
-add-t27 : tie.Need-add-t27 Inv-loop μ-loop
-add-t27 c =
-    let s = closing-at-line (c .before .before .before .before .before .loop .inv .0) (c .before .before .before .before .term-of .ensures) (c .before .before .enum-told .given .1) (c .before .end-refusal .ensures) (c .if1 .left) in omega (arith, s .lined, s .within, s .fits)
+returns : tie.Need-returns Inv μ
+returns c = record { result = terms-refused (c .before .before .before .before .loop .inv .0) (c .before .before .if1 .taken) (c .before .end-refusal .ensures) (c .if2 .taken) }
 
-returns-2 : tie.Need-returns-2 Inv-loop μ-loop
-returns-2 c =
-    record { result = terms-closed (c .before .before .before .before .before .loop .inv .0) (c .before .before .before .before .term-of .ensures) (c .before .before .enum-told .given .1) (c .before .end-refusal .ensures) (c .if1 .left) }
+returns-2 : tie.Need-returns-2 Inv μ
+returns-2 c = record { result = terms-closed (c .before .before .before .before .loop .inv .0) (c .before .before .if1 .taken) (c .before .end-refusal .ensures) (c .if2 .left) }
 
-open-term-requires : tie.Need-open-term-requires Inv-loop μ-loop
-open-term-requires c κs =
-    let e = c .before .before .before .before .before .before .loop .inv .0 in
-    let s = term-at-line (c .before .before .before .before .before .before .loop .inv .0) (c .before .before .before .before .before .term-of .ensures) (c .before .before .before .v .given .1) .0 in
-    (e .terms, e .fits .terms, e .fits .starts, omega (arith, s .counted, s .within, s .fits))
+open-term-requires : tie.Need-open-term-requires Inv μ
+open-term-requires c κs = term-ready (c .before .before .before .before .loop .inv .0)
 
-returns-3 : tie.Need-returns-3 Inv-loop μ-loop
+returns-3 : tie.Need-returns-3 Inv μ
 returns-3 c =
-    record { result = term-refused (c .before .before .before .before .before .before .before .before .before .before .before .before .loop .inv .0) (c .before .before .before .before .before .before .before .before .before .before .before .term-of .ensures) (c .before .before .before .before .before .before .before .before .before .v .given .1) (c .before .before .before .before .before .open-term .ensures) (c .if2 .taken) }
+    let o = c .before .before .before .before .before in
+    record { result = term-refused (turn o .loop .inv .0) (o .before .before .before .if1 .left) (o .open-term .ensures) (c .if3 .taken) }
 
-add-read-postings : tie.Need-add-read-postings Inv-loop μ-loop
-add-read-postings c =
-    let s = term-at-line (c .before .before .before .before .before .before .before .before .before .before .before .before .loop .inv .0) (c .before .before .before .before .before .before .before .before .before .before .before .term-of .ensures) (c .before .before .before .before .before .before .before .before .before .v .given .1) .0 in omega (arith, s .lined, s .within, s .fits)
+read-postings-requires : tie.Need-read-postings-requires Inv μ
+read-postings-requires c κs = let o = c .before .before .before .before .before .before in posts-ready (turn o .loop .inv .0) (o .before .before .before .if1 .left)
 
-read-postings-requires : tie.Need-read-postings-requires Inv-loop μ-loop
-read-postings-requires c κs =
-    let e = c .before .before .before .before .before .before .before .before .before .before .before .before .before .loop .inv .0 in
-    let s = term-at-line (c .before .before .before .before .before .before .before .before .before .before .before .before .before .loop .inv .0) (c .before .before .before .before .before .before .before .before .before .before .before .before .term-of .ensures) (c .before .before .before .before .before .before .before .before .before .before .v .given .1) in
-    (s .0, (s .1, e .lasts, e .postings, e .fits .postings))
-
-returns-4 : tie.Need-returns-4 Inv-loop μ-loop
+returns-4 : tie.Need-returns-4 Inv μ
 returns-4 c =
+    let r = c .before .before .before .before .before in
+    let o = opened r in
     record {
-      result = postings-refused (c .before .before .before .before .before .before .before .before .before .before .before .before .before .before .before .before .before .before .before .loop .inv .0) (c .before .before .before .before .before .before .before .before .before .before .before .before .before .before .before .before .before .before .term-of .ensures) (c .before .before .before .before .before .before .before .before .before .before .before .before .before .before .before .before .v .given .1) (c .before .before .before .before .before .before .before .before .before .before .before .before .open-term .ensures)
-          (c .before .before .before .before .before .before .before .if2 .left) (c .before .before .before .before .before .read-postings .ensures) (c .before .y .given .1);
+      result = postings-refused (turn o .loop .inv .0) (o .before .before .before .if1 .left) (o .open-term .ensures) (r .before .before .if3 .left) (r .read-postings .ensures) (c .before .y .given .1);
     }
 
-line-at-requires : tie.Need-line-at-requires Inv-loop μ-loop
+line-at-requires : tie.Need-line-at-requires Inv μ
 line-at-requires c κs =
-    ended-within (c .before .before .before .before .before .before .before .before .before .before .before .before .before .before .before .before .before .before .before .loop .inv .0) (c .before .before .before .before .before .before .before .before .before .before .before .before .before .before .before .before .before .before .term-of .ensures) (c .before .before .before .before .before .before .before .before .before .before .before .before .before .before .before .before .v .given .1) (c .before .before .before .before .before .before .before .before .before .before .before .before .open-term .ensures)
-    (c .before .before .before .before .before .before .before .if2 .left) (c .before .before .before .before .before .read-postings .ensures) (c .before .b .given .1) .1
+    let r = c .before .before .before .before .before in
+    let o = opened r in
+    ended-within (turn o .loop .inv .0) (o .before .before .before .if1 .left) (o .open-term .ensures) (r .before .before .if3 .left) (r .read-postings .ensures) (c .before .q .given .1) .1
 
-add-n : tie.Need-add-n Inv-loop μ-loop
+add-n : tie.Need-add-n Inv μ
 add-n c =
-    let i = c .before .before .before .before .before .before .before .before .before .before .before .before .before .before .before .before .before .before .before .before .loop .inv in
-    omega (arith, c .before .before .before .before .before .before .before .before .before .before .before .before .before .open-term .ensures .holds (c .before .before .before .before .before .before .before .before .if2 .left), i .0 .fits .terms, i .1 .terms, c .before .before .before .before .before .before .before .before .before .before .before .before .before .before .before .before .before .before .before .before .before .before .before .before .before .before .good .1 .1 .1 .1 .1 .1 .1 .0 .0)
+    let r = c .before .before .before .before .before .before .before in
+    let o = opened r in
+    omega (arith, o .open-term .ensures .holds (r .before .before .if3 .left), turn o .loop .inv .0 .start .bounded .terms)
 
-loop-less : tie.Need-loop-less Inv-loop μ-loop
+loop-less : tie.Need-loop-less Inv μ
 loop-less c =
-    let w = ended-within (c .before .before .before .before .before .before .before .before .before .before .before .before .before .before .before .before .before .before .before .before .loop .inv .0) (c .before .before .before .before .before .before .before .before .before .before .before .before .before .before .before .before .before .before .before .term-of .ensures) (c .before .before .before .before .before .before .before .before .before .before .before .before .before .before .before .before .before .v .given .1) (c .before .before .before .before .before .before .before .before .before .before .before .before .before .open-term .ensures)
-    (c .before .before .before .before .before .before .before .before .if2 .left) (c .before .before .before .before .before .before .read-postings .ensures) (c .before .before .b .given .1) in omega (arith, w .0, w .1, c .line-at .ensures .onward)
+    let r = c .before .before .before .before .before .before .before in
+    let o = opened r in
+    omega (
+      arith,
+      terms-onward (turn o .loop .inv .0) (o .before .before .before .if1 .left) (o .open-term .ensures) (r .before .before .if3 .left) (r .read-postings .ensures) (c .before .before .before .q .given .1)
+          (c .before .line-at .ensures),
+    )
 
-loop-again : tie.Need-loop-again Inv-loop μ-loop
+loop-again : tie.Need-loop-again Inv μ
 loop-again c =
-    let z = c .before .before .before .before .before .before .before .before .before .before .before .before .before .before .before .before .before .before .before .before .loop .inv .1 in
-    let o = c .before .before .before .before .before .before .before .before .before .before .before .before .before .open-term .kept .1 .1 .1 .1 in (
-      terms-more (c .before .before .before .before .before .before .before .before .before .before .before .before .before .before .before .before .before .before .before .before .loop .inv .0) (c .before .before .before .before .before .before .before .before .before .before .before .before .before .before .before .before .before .before .before .term-of .ensures) (c .before .before .before .before .before .before .before .before .before .before .before .before .before .before .before .before .before .v .given .1) (c .before .before .before .before .before .before .before .before .before .before .before .before .before .open-term .ensures)
-          (c .before .before .before .before .before .before .before .before .if2 .left) (c .before .before .before .before .before .before .read-postings .ensures) (c .before .before .b .given .1) (c .line-at .ensures),
-      record { terms = o .0 ∙ z .terms; starts = o .1 .0 ∙ z .starts; postings = c .before .before .before .before .before .before .read-postings .kept .1 .1 .1 .1 .1 .1 .1 .0 ∙ z .postings },
+    let r = c .before .before .before .before .before .before .before in
+    let o = opened r in
+    let i = turn o .loop .inv in
+    let k = o .open-term .kept .1 .1 .1 .1 in (
+      terms-more (i .0) (o .before .before .before .if1 .left) (o .open-term .ensures) (r .before .before .if3 .left) (r .read-postings .ensures) (c .before .before .before .q .given .1) (c .before .line-at .ensures),
+      record { terms = k .0 ∙ i .1 .terms; starts = k .1 .0 ∙ i .1 .starts; postings = r .read-postings .kept .1 .1 .1 .1 .1 .0 ∙ i .1 .postings },
     )
 
 pub read-terms-spec : {M : Type 1} → statement M
 read-terms-spec =
     tie.close
-    (tie.spec Inv-loop μ-loop loop-holds (λ c κs. search needs) (λ c. search needs) (λ c. search needs) (λ c κs. search needs) (λ c. search needs)
-    (λ c. search needs) (λ c. search needs) returns add-t27 (λ c. search needs) (λ c. search needs) (λ c. search needs) returns-2 open-term-requires
-    (λ c. search needs) (λ c. search needs) (λ c. search needs) returns-3 add-read-postings read-postings-requires (λ c. search needs) (λ c. search needs)
-    (λ c. search needs) (λ c. search needs) returns-4 (λ c. search needs) line-at-requires add-n loop-less loop-again)
+    (tie.spec Inv μ loop-holds add-t21 (λ c κs. search needs) (λ c. search needs) (λ c. search needs) (λ c. search needs) returns (λ c. search needs)
+    (λ c. search needs) (λ c. search needs) returns-2 open-term-requires (λ c. search needs) (λ c. search needs) (λ c. search needs) returns-3
+    read-postings-requires (λ c. search needs) (λ c. search needs) (λ c. search needs) (λ c. search needs) returns-4 (λ c. search needs) line-at-requires
+    add-n loop-less loop-again)
