@@ -7,9 +7,9 @@ use Rattle.index.specs.Index.{Index}
 use Rattle.query.specs.declared.Query.{Query}
 use Rattle.search.specs.Promises.{Searched}
 use Rattle.search.specs.declared.Answer.{Answer}
-use Rattle.plant_text.specs.PlantText.{outcome-after, plant-after, index-after}
+use Rattle.plant_text.specs.PlantText.{outcome-number, outcome-after, plant-after, index-after}
 use Rattle.plant_text.specs.declared.Outcome.{Outcome}
-use Rattle.c_api.specs.Handing.{numbers-of, outcome-refusal, outcome-numbers}
+use Rattle.c_api.specs.Handing.{numbers-of, outcome-numbers}
 use Rattle.c_api.specs.Interface.{SearchHanded, PlantHanded}
 
 -- a search of the query that was handed over is a search of the same query, built anew
@@ -26,6 +26,6 @@ search-handed same s =
 
 module _ {text : List ℕ} {P P′ : Plant} {I I′ : Index} {o : Outcome} where
   pub plant-handed : o ≡ outcome-after text P I → P′ ≡ plant-after text P I → I′ ≡ index-after text P I
-      → {four : List ℕ} → four ≡ outcome-numbers o → {r : ℕ} → r ≡ outcome-refusal o → PlantHanded text P I P′ I′ four r
+      → {four : List ℕ} → four ≡ outcome-numbers o → {r : ℕ} → r ≡ outcome-number o → PlantHanded text P I P′ I′ four r
   plant-handed e p i f g =
-      record { refusal = g ∙ ap outcome-refusal e; numbers = f ∙ ap outcome-numbers e; plant = p; index = i }
+      record { refusal = g ∙ ap outcome-number e; numbers = f ∙ ap outcome-numbers e; plant = p; index = i }

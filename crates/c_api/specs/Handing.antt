@@ -6,6 +6,7 @@ use Rattle.query.specs.declared.Levels.{Levels}
 use Rattle.query.specs.declared.Query.{Query}
 use Rattle.search.specs.declared.Answer.{Answer}
 use Rattle.query_text.specs.declared.QueryRead.{QueryRead}
+use Rattle.plant_text.specs.PlantText.{outcome-values}
 use Rattle.plant_text.specs.declared.Outcome.{Outcome}
 
 -- 0: any level code; another number: a range
@@ -33,12 +34,6 @@ query-numbers r =
     (r .line ∷ r .query .required .count ∷ r .query .forbidden .count ∷ [])
     ++ (level-numbers (r .query .levels) ++ (r .query .start ∷ r .query .budget ∷ []))
 
--- how a reading of plant text ended: the refusal, or 0
-abbrev pub outcome-refusal : Outcome → ℕ
-outcome-refusal (Outcome.Made devices terms postings) = 0
-outcome-refusal (Outcome.Refused n line) = n
-
--- and the numbers beside it: line, devices, terms, postings
+-- the numbers beside the refusal of a plant text: line, devices, terms, postings
 abbrev pub outcome-numbers : Outcome → List ℕ
-outcome-numbers (Outcome.Made devices terms postings) = 0 ∷ devices ∷ terms ∷ postings ∷ []
-outcome-numbers (Outcome.Refused n line) = line ∷ 0 ∷ 0 ∷ 0 ∷ []
+outcome-numbers o = let v = outcome-values o in v .line ∷ v .devices ∷ v .terms ∷ v .postings ∷ []

@@ -8,8 +8,8 @@ use Rattle.index.specs.Index.{Index}
 use Rattle.query.specs.declared.Query.{Query}
 use Rattle.search.specs.Answer.{answer, answer-list}
 use Rattle.search.specs.Promises.{Promised}
-use Rattle.plant_text.specs.PlantText.{outcome-after, plant-after, index-after}
-use Rattle.c_api.specs.Handing.{numbers-of, outcome-refusal, outcome-numbers}
+use Rattle.plant_text.specs.PlantText.{outcome-number, outcome-after, plant-after, index-after}
+use Rattle.c_api.specs.Handing.{numbers-of, outcome-numbers}
 
 -- `plant_search_search`: the refusal r, the three numbers beside it and the answer list, which was `out`
 pub record SearchHanded (P : Plant) (I : Index) (q : Query) (out out′ three : List ℕ) (r : ℕ) : Type 0 where
@@ -20,7 +20,7 @@ pub record SearchHanded (P : Plant) (I : Index) (q : Query) (out out′ three : 
 
 -- `plant_search_read_plant`: the refusal r, the four numbers beside it and the tables, which were those of P and I
 pub record PlantHanded (text : List ℕ) (P : Plant) (I : Index) (P′ : Plant) (I′ : Index) (four : List ℕ) (r : ℕ) : Type 0 where
-  pub refusal : r ≡ outcome-refusal (outcome-after text P I)
+  pub refusal : r ≡ outcome-number (outcome-after text P I)
   pub numbers : four ≡ outcome-numbers (outcome-after text P I)
   pub plant : P′ ≡ plant-after text P I
   pub index : I′ ≡ index-after text P I

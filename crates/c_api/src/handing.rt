@@ -1,6 +1,7 @@
 // A query as it is handed over.
 ghost use mathlib.Core.Path.{_≡_};
-ghost use Rattle.c_api.specs.Handing.{levels-of, query-of, level-numbers, query-numbers, outcome-refusal, outcome-numbers};
+ghost use Rattle.c_api.specs.Handing.{levels-of, query-of, level-numbers, query-numbers, outcome-numbers};
+ghost use Rattle.plant_text.specs.PlantText.{outcome-number};
 use integers::u32_to_usize;
 use plant_text::Outcome;
 use query::Levels;
@@ -74,7 +75,7 @@ pub fn query_numbers(read: QueryRead) -> [usize; 8]
 
 // The refusal of a plant text, or 0.
 pub fn outcome_refusal(outcome: Outcome) -> u32
-    ensures { λ r. ⌜ r ≡ outcome-refusal outcome ⌝ }
+    ensures { λ r. ⌜ r ≡ outcome-number outcome ⌝ }
 {
     match outcome {
         Outcome::Made(_, _, _) => 0,

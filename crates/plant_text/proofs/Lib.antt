@@ -1,4 +1,5 @@
 -- Laws of plant text.
+mod Lexing
 mod Reading
 mod Nesting
 mod Clearing

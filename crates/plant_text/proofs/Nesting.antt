@@ -13,13 +13,14 @@ use Rattle.laws.specs.Rows.{pick}
 use Rattle.laws.proofs.Rows.{pick-none}
 use Rattle.laws.proofs.Tests.{tests, flags}
 use Rattle.plant.specs.Plant as plants
-use Rattle.text.specs.Forms.{found-at}
+use Rattle.text.specs.Forms.{plain, found-at}
 use Rattle.text.specs.Reading.{Read, no}
 use Rattle.text.specs.declared.Form.{Form}
 use Rattle.text.specs.declared.Found.{Found}
 use Rattle.plant_text.specs.Form.{device-line, close-line, rows}
 use Rattle.plant_text.specs.PlantText.{State, devices, stands, outermost, line-refusal, next}
 use Rattle.plant_text.specs.inner.Rest.{with-number, highest-known, line-after, end-refusal}
+use Rattle.plant_text.specs.inner.Common.{Closes}
 use Rattle.plant_text.specs.inner.Devices.{devices-made, Stack, opened-at, closed-at, from-device, at-form, Same, ListStart, DeviceStart, DevicesAt, Stops, DeviceRead, device-result, ListRead, list-result}
 use Rattle.plant_text.specs.declared.Room.{Room}
 use Rattle.plant_text.specs.declared.lines.Place.{Place}
@@ -210,6 +211,24 @@ module _ {r : Room} {T : plants.Plant} (t : List ℕ) (p : Place) (depth top n :
                     more = omega (arith, stopped .more);
                   };
                 })
+
+    -- a device that feeds none: the closing bracket comes next
+    module _ {next : ℕ} (c : Closes t (p .at) next) (y : 0 < next) where
+      abbrev leaf-stop : Place
+      leaf-stop = record { at = next; line = p .line + 1; count = p .count + 1 }
+
+      leaf-list : ListRead r t T₁ (more-at p (p .at)) (depth + 1) out T₁ (listed.Stopped (plain close-line) leaf-stop)
+      leaf-list = record { result = list-stop (list-start inside-start) (c .found y) (λ e. omega arith) }
+
+      leaf-closes : 0 ≡ end-refusal (depth + 2) close-line
+      leaf-closes = rw (ne-eqb (depth + 2) 0 (omega arith))
+
+      pub leaf-ready : (p .count < length (T₁ .last)) × (p .count + 1 ≤ 65535) × (p .line + 1 ≤ 65537)
+      leaf-ready = close-ready leaf-list refl leaf-closes
+
+      pub leaf-ended : {L : List ℕ} → L ≡ set (T₁ .last) (p .count) (p .count + 1) → {after : Place} → after ≡ line-after leaf-stop next
+          → DeviceRead r t T n p depth top (plants.plant L (T₁ .root) (T₁ .level)) (ending.Ended after)
+      leaf-ended k j = device-ended leaf-list refl leaf-closes refl k j
 
 -- each table is as long as it was
 pub record PlantSizes (T₀ T : plants.Plant) : Type 0 where

@@ -1,3 +1,4 @@
+pub mod Common
 pub mod Rest
 pub mod Devices
 pub mod Terms

@@ -11,11 +11,12 @@ ghost use Rattle.plant_text.specs.PlantText.{«longest-text», «highest
 ghost use Rattle.plant_text.specs.inner.Rest.{«line-after»};
 ghost use Rattle.plant_text.specs.inner.Devices.{«opened-at», DeviceStart, DeviceRead, ListStart, ListRead};
 use crate::Room;
+use crate::common::close_at;
 use crate::lines::DEVICE;
 use crate::lines::Ending;
 use crate::lines::Place;
+use crate::lines::device_at;
 use crate::lines::end_refusal;
-use crate::lines::line_at;
 use text::Form;
 
 // A list of devices that has been read up to a line that is no device's: its form, where reading goes on after it, and its number; or the
@@ -102,6 +103,15 @@ fn device(
     let own = (count + 1) as u16;
     let out = outer(depth, top, own);
     open_device(count, out, n, last, root, level);
+    let next = close_at(text, place.at);
+    if 0 < next {
+        let stop = Place {
+            at: next,
+            line: line + 1,
+            count: count + 1,
+        };
+        return Ending::Ended(close_device(count, stop, last));
+    }
     let inside = Place {
         at: place.at,
         line: line + 1,
@@ -139,7 +149,7 @@ pub fn devices(
 {
     let mut p = place;
     loop {
-        let found = line_at(text, p.at);
+        let found = device_at(text, p.at);
         let f = found.form;
         let here = Place {
             at: found.next,

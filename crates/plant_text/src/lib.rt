@@ -29,6 +29,7 @@ use crate::terms::Closing;
 use crate::terms::read_terms;
 use integers::least;
 
+mod common;
 mod devices;
 mod lines;
 mod terms;

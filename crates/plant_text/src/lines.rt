@@ -5,10 +5,15 @@ ghost use lib.ListN.{length};
 ghost use Rattle.text.specs.Forms.{«found-at»};
 ghost use Rattle.plant_text.specs.Form.{rows, «is-posting»};
 ghost use Rattle.plant_text.specs.inner.Rest.{«highest-known», «end-refusal», «start-refusal»};
+use crate::common::close_at;
+use crate::common::device_line;
+use crate::common::line_of;
+use crate::common::posting_line;
+use crate::common::term_line;
 use text::Found;
 
 // Numbers above this are read as one above it.
-const LIMIT: u32 = 65535;
+pub const LIMIT: u32 = 65535;
 
 // The kinds of line.
 const UNFINISHED: u32 = 0;
@@ -19,7 +24,7 @@ pub const DEVICE: u32 = 3;
 
 pub const TERM: u32 = 4;
 
-const OWN: u32 = 5;
+pub const OWN: u32 = 5;
 
 pub const ALL: u32 = 6;
 
@@ -28,8 +33,8 @@ const CLOSE: u32 = 7;
 // Where reading goes on, at which line, with how many devices or postings.
 pub struct Place {
     pub at: usize,
-    pub line: u32,
     pub count: usize,
+    pub line: u32,
 }
 
 // What has been read to its end: where reading goes on; or the number of the refusal and its line.
@@ -43,7 +48,39 @@ pub fn line_at(text: &[u8], at: usize) -> Found
     requires { ⌜ at ≤ length (now text) ⌝ }
     ensures { λ r. ⌜ r ≡ «found-at» «highest-known» rows (now (text .entry)) at ⌝ }
 {
+    let next = close_at(text, at);
+    if 0 < next {
+        return line_of(CLOSE, 0, next);
+    }
+    let term = term_line(text, at);
+    if 0 < term.next {
+        return term;
+    }
     plain_line(text, at)
+}
+
+// The same, where a device's line is likely.
+pub fn device_at(text: &[u8], at: usize) -> Found
+    requires { ⌜ at ≤ length (now text) ⌝ }
+    ensures { λ r. ⌜ r ≡ «found-at» «highest-known» rows (now (text .entry)) at ⌝ }
+{
+    let found = device_line(text, at);
+    if 0 < found.next {
+        return found;
+    }
+    line_at(text, at)
+}
+
+// The same, where a posting's line is likely.
+pub fn posting_at(text: &[u8], at: usize) -> Found
+    requires { ⌜ at ≤ length (now text) ⌝ }
+    ensures { λ r. ⌜ r ≡ «found-at» «highest-known» rows (now (text .entry)) at ⌝ }
+{
+    let found = posting_line(text, at);
+    if 0 < found.next {
+        return found;
+    }
+    line_at(text, at)
 }
 
 // The same, one pattern after another.

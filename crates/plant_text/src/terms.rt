@@ -23,6 +23,7 @@ use crate::lines::TERM;
 use crate::lines::end_refusal;
 use crate::lines::is_posting;
 use crate::lines::line_at;
+use crate::lines::posting_at;
 use text::Form;
 
 // A plant that has been closed: the count of terms, and where what follows begins, with the count of postings; or the number of the refusal and
@@ -131,7 +132,7 @@ fn read_postings(
     loop {
         let k = p.line;
         let n = p.count;
-        let found = line_at(text, p.at);
+        let found = posting_at(text, p.at);
         let next = found.next;
         let f = found.form;
         let kind = f.kind;

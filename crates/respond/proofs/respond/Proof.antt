@@ -25,7 +25,7 @@ numbers c =
     let r = c .before .before .before .before .before .before .before .before .before .read in
     let m = c .before .d .given .0 in
     tables program-room program-within (now (c .before .before .before .before .before .before .before .before .before .before .before .before .before .before .before .before .before .before .args .plant)) (m .0) (m .1 .0) (m .1 .1 .0) 1024 1024 1024 256 256 4096 _ _ _ _ _ _
-    (sym (c .before .d .given .1) ∙ r .ensures .0) (r .ensures .1 .0) (r .ensures .1 .1)
+    (sym (c .before .d .given .1) ∙ r .ensures .0) (r .ensures .1 .0) (r .ensures .1 .1 .0)
 
 returns : tie.Need-returns
 returns c =

@@ -9,19 +9,20 @@ use native.Mathlib.Omega.{arith}
 use lib.ListN.{length}
 use Rattle.plant.specs.Plant.{plant}
 use Rattle.plant_text.specs.inner.Devices.{DevicesAt, from-device}
-use Rattle.plant_text.proofs.Nesting.{PlantSizes, list-start, list-stop, list-refused, list-more, list-onward, device-moves, device-start, open-fits, inside-start, device-barred, device-refused, device-open, close-ready, device-ended}
+use Rattle.plant_text.proofs.Nesting.{PlantSizes, list-start, list-stop, list-refused, list-more, list-onward, device-moves, device-start, open-fits, inside-start, device-barred, device-refused, device-open, close-ready, device-ended, leaf-ready, leaf-ended}
 use Rattle.plant_text.proofs.devices.device.Reads as device
 use Rattle.plant_text.proofs.devices.device.Kinds as device-kinds
 use Rattle.plant_text.proofs.devices.+device+devices.Lts-device as device-lts
 use Rattle.plant_text.proofs.devices.devices.Reads as devices
 use Rattle.plant_text.proofs.devices.devices.Kinds as devices-kinds
 use Rattle.plant_text.proofs.devices.+device+devices.Lts-devices as devices-lts
+use Rattle.plant_text.proofs.common.close_at.Reads as close-at-reads
 use Rattle.plant_text.proofs.devices.close_device.Reads as close-device-reads
 use Rattle.plant_text.proofs.devices.device_refusal.Reads as device-refusal-reads
 use Rattle.plant_text.proofs.devices.open_device.Reads as open-device-reads
 use Rattle.plant_text.proofs.devices.outer.Reads as outer-reads
 use Rattle.plant_text.proofs.lines.end_refusal.Reads as end-refusal-reads
-use Rattle.plant_text.proofs.lines.line_at.Reads as line-at-reads
+use Rattle.plant_text.proofs.lines.device_at.Reads as device-at-reads
 use Rattle.plant_text.proofs.devices.+device+devices.{statement}
 use Rattle.plant_text.proofs.devices.+device+devices.Tie.{close}
 
@@ -52,16 +53,18 @@ device-calls t = (
   outer-reads.Learnt,
   open-device-reads.Asked,
   open-device-reads.Learnt,
+  close-at-reads.Asked,
+  close-at-reads.Learnt,
+  close-device-reads.Asked,
+  close-device-reads.Learnt,
   devices-below t,
   devices.Post,
   end-refusal-reads.Asked,
   end-refusal-reads.Learnt,
-  close-device-reads.Asked,
-  close-device-reads.Learnt,
 )
 
 abbrev devices-calls : ℕ → devices-lts.Claims
-devices-calls t = (line-at-reads.Asked, line-at-reads.Learnt, device-below t, device.Post)
+devices-calls t = (device-at-reads.Asked, device-at-reads.Learnt, device-below t, device.Post)
 
 module _ (t : ℕ) where
   -- device: past its tests; where its tables are opened; where its list is read; where it may end
@@ -69,7 +72,7 @@ module _ (t : ℕ) where
   tested c = c .before .before .before .before .before
 
   abbrev opened : device-lts.After-devices (device-calls t) (device-at t) device.Post → device-lts.After-open-device (device-calls t) (device-at t) device.Post
-  opened c = c .before .before .before .before .before .before .before .before .before .before
+  opened c = c .before .before .before .before .before .before .before .before .before .before .before .before
 
   abbrev read : device-lts.After-end-refusal (device-calls t) (device-at t) device.Post → device-lts.After-devices (device-calls t) (device-at t) device.Post
   read c = c .before .before .before .before .before .before .before .before .before .before
@@ -94,12 +97,33 @@ module _ (t : ℕ) where
       let s = e .before .before .before .before .before .before .pre .1 .start in
       omega (arith, passed e, s .fits .last, s .fits .root, s .fits .level)
 
+  -- where a device feeds none
+  device-add-t33 : device-lts.Need-add-t33 (device-calls t) (device-at t) device.Post
+  device-add-t33 c = omega (arith, passed (tested (c .before .before .before .before .before .before .before .before)))
+
+  device-close-device-requires : device-lts.Need-close-device-requires (device-calls t) (device-at t) device.Post
+  device-close-device-requires c κs =
+      let o = c .before .before .before .before .before .before .before .before .before in
+      let e = tested o in
+      let p = e .before .before .before .before .before .before in
+      leaf-ready (p .args .text .now) (p .args .place) (p .args .depth) (p .args .top) (p .args .n) (e .before .device-refusal .ensures) (p .pre .1) (e .if1 .left)
+      (o .before .before .before .before .outer .ensures) (o .open-device .ensures) (c .before .before .close-at .ensures) (c .before .if2 .taken)
+
+  device-returns-2 : device-lts.Need-returns-2 (device-calls t) (device-at t) device.Post
+  device-returns-2 c =
+      let d = c .before .before in
+      let o = d .before .before .before .before .before .before .before .before .before .before in
+      let e = tested o in
+      leaf-ended _ _ _ _ _ (e .before .device-refusal .ensures) (e .before .before .before .before .before .before .pre .1) (e .if1 .left)
+      (o .before .before .before .before .outer .ensures) (o .open-device .ensures) (d .before .before .before .close-at .ensures) (d .before .before .if2 .taken)
+      (d .close-device .ensures .0) (d .close-device .ensures .1)
+
   device-add-devices-2 : device-lts.Need-add-devices-2 (device-calls t) (device-at t) device.Post
-  device-add-devices-2 c = omega (arith, passed (tested (c .before .before .before .before .before .before)))
+  device-add-devices-2 c = omega (arith, passed (tested (c .before .before .before .before .before .before .before .before)))
 
   device-devices-requires : device-lts.Need-devices-requires (device-calls t) (device-at t) device.Post
   device-devices-requires c κs =
-      let o = c .before .before .before .before .before .before .before .before .before in
+      let o = c .before .before .before .before .before .before .before .before .before .before .before in
       let e = tested o in
       let p = e .before .before .before .before .before .before in (
         omega (arith, p .pre .0),
@@ -110,16 +134,16 @@ module _ (t : ℕ) where
   device-add-end-refusal : device-lts.Need-add-end-refusal (device-calls t) (device-at t) device.Post
   device-add-end-refusal c = omega (arith, passed (tested (opened (c .before .before .before .before .before .before .before .before .before))))
 
-  device-returns-2 : device-lts.Need-returns-2 (device-calls t) (device-at t) device.Post
-  device-returns-2 c =
+  device-returns-3 : device-lts.Need-returns-3 (device-calls t) (device-at t) device.Post
+  device-returns-3 c =
       let l = read (c .before) in
       let o = opened l in
       let e = tested o in
       device-open _ _ _ _ _ (e .before .device-refusal .ensures) (e .before .before .before .before .before .before .pre .1) (e .if1 .left) (o .before .before .before .before .outer .ensures) (o .open-device .ensures) (l .devices .ensures)
-      (c .before .before .before .f .given .1) (c .before .end-refusal .ensures) (c .if2 .taken)
+      (c .before .before .before .f .given .1) (c .before .end-refusal .ensures) (c .if3 .taken)
 
-  device-close-device-requires : device-lts.Need-close-device-requires (device-calls t) (device-at t) device.Post
-  device-close-device-requires c κs =
+  device-close-device-requires-2 : device-lts.Need-close-device-requires-2 (device-calls t) (device-at t) device.Post
+  device-close-device-requires-2 c κs =
       let l = read (c .before .before) in
       let o = opened l in
       let e = tested o in
@@ -127,23 +151,23 @@ module _ (t : ℕ) where
       close-ready (p .args .text .now) (p .args .place) (p .args .depth) (p .args .top) (p .args .n) (e .before .device-refusal .ensures) (p .pre .1) (e .if1 .left)
       (o .before .before .before .before .outer .ensures) (o .open-device .ensures) (l .devices .ensures) (c .before .before .before .before .f .given .1) (c .before .before .end-refusal .ensures)
 
-  device-returns-3 : device-lts.Need-returns-3 (device-calls t) (device-at t) device.Post
-  device-returns-3 c =
+  device-returns-4 : device-lts.Need-returns-4 (device-calls t) (device-at t) device.Post
+  device-returns-4 c =
       let l = c .before .before .before .before .before .before .before .before .before in
       let o = opened l in
       let e = tested o in
       device-refused _ _ _ _ _ (e .before .device-refusal .ensures) (e .before .before .before .before .before .before .pre .1) (e .if1 .left) (o .before .before .before .before .outer .ensures) (o .open-device .ensures) (l .devices .ensures)
       (c .before .y .given .1)
 
-  device-returns-4 : device-lts.Need-returns-4 (device-calls t) (device-at t) device.Post
-  device-returns-4 c =
+  device-returns-5 : device-lts.Need-returns-5 (device-calls t) (device-at t) device.Post
+  device-returns-5 c =
       let d = c .before .before in
       let r = d .before .before .before in
       let l = read r in
       let o = opened l in
       let e = tested o in
       device-ended _ _ _ _ _ (e .before .device-refusal .ensures) (e .before .before .before .before .before .before .pre .1) (e .if1 .left) (o .before .before .before .before .outer .ensures) (o .open-device .ensures) (l .devices .ensures)
-      (r .before .before .f .given .1) (r .end-refusal .ensures) (d .before .before .if2 .left) (d .close-device .ensures .0) (d .close-device .ensures .1)
+      (r .before .before .f .given .1) (r .end-refusal .ensures) (d .before .before .if3 .left) (d .close-device2 .ensures .0) (d .close-device2 .ensures .1)
 
 -- devices: what has been read of the list, in tables of the same sizes
 abbrev Inv : devices-lts.InvT-loop
@@ -156,36 +180,36 @@ abbrev μ : devices-lts.MeasureT-loop
 
 module _ (t : ℕ) where
   -- where the line of a device is found, before the device is read
-  abbrev found : devices-lts.After-device (devices-calls t) (devices-at t) devices.Post Inv μ → devices-lts.After-line-at (devices-calls t) (devices-at t) devices.Post Inv μ
+  abbrev found : devices-lts.After-device (devices-calls t) (devices-at t) devices.Post Inv μ → devices-lts.After-device-at (devices-calls t) (devices-at t) devices.Post Inv μ
   found c = c .before .before .before .before .before .before .before
 
   devices-loop-holds : devices-lts.Need-loop-holds (devices-calls t) (devices-at t) devices.Post Inv μ
   devices-loop-holds c = (search (list-start, needs), search needs)
 
-  devices-line-at-requires : devices-lts.Need-line-at-requires (devices-calls t) (devices-at t) devices.Post Inv μ
-  devices-line-at-requires c κs = c .loop .inv .0 .start .at-line .within
+  devices-device-at-requires : devices-lts.Need-device-at-requires (devices-calls t) (devices-at t) devices.Post Inv μ
+  devices-device-at-requires c κs = c .loop .inv .0 .start .at-line .within
 
   devices-returns : devices-lts.Need-returns (devices-calls t) (devices-at t) devices.Post Inv μ
-  devices-returns c = record { result = list-stop (c .before .before .before .before .loop .inv .0) (c .before .before .before .line-at .ensures) (c .if1 .taken) }
+  devices-returns c = record { result = list-stop (c .before .before .before .before .loop .inv .0) (c .before .before .before .device-at .ensures) (c .if1 .taken) }
 
   devices-device-requires : devices-lts.Need-device-requires (devices-calls t) (devices-at t) devices.Post Inv μ
   devices-device-requires c κs =
       let f = c .before .before .before .before .before .before in
       let e = f .before .loop .inv .0 in
-      let s = device-start e (f .line-at .ensures) (c .before .before .before .if1 .left) in
-      (omega (arith, device-moves e (f .line-at .ensures) (c .before .before .before .if1 .left), s .start .at-line .within, e .onward, f .before .before .before .before .before .before .pre .0), s)
+      let s = device-start e (f .device-at .ensures) (c .before .before .before .if1 .left) in
+      (omega (arith, device-moves e (f .device-at .ensures) (c .before .before .before .if1 .left), s .start .at-line .within, e .onward, f .before .before .before .before .before .before .pre .0), s)
 
   devices-returns-2 : devices-lts.Need-returns-2 (devices-calls t) (devices-at t) devices.Post Inv μ
   devices-returns-2 c =
       let d = c .before .before .before .before .before .before .before .before .before in
       let f = found d in
-      record { result = list-refused (f .before .loop .inv .0) (f .line-at .ensures) (d .before .before .before .before .if1 .left) (d .device .ensures) (c .before .x .given .1) }
+      record { result = list-refused (f .before .loop .inv .0) (f .device-at .ensures) (d .before .before .before .before .if1 .left) (d .device .ensures) (c .before .x .given .1) }
 
   devices-loop-less : devices-lts.Need-loop-less (devices-calls t) (devices-at t) devices.Post Inv μ
   devices-loop-less c =
       let d = c .before .before .before .before .before .before .before .before .before in
       let f = found d in
-      omega (arith, list-onward (f .before .loop .inv .0) (f .line-at .ensures) (d .before .before .before .before .if1 .left) (d .device .ensures) (c .before .q .given .1))
+      omega (arith, list-onward (f .before .loop .inv .0) (f .device-at .ensures) (d .before .before .before .before .if1 .left) (d .device .ensures) (c .before .q .given .1))
 
   devices-loop-again : devices-lts.Need-loop-again (devices-calls t) (devices-at t) devices.Post Inv μ
   devices-loop-again c =
@@ -193,18 +217,19 @@ module _ (t : ℕ) where
       let f = found d in
       let z = f .before .loop .inv .1 in
       let k = d .device .kept .1 .1 .1 .1 .1 .1 in
-      (list-more (f .before .loop .inv .0) (f .line-at .ensures) (d .before .before .before .before .if1 .left) (d .device .ensures) (c .before .q .given .1), record { last = k .0 ∙ z .last; root = k .1 .0 ∙ z .root; level = k .1 .1 .0 ∙ z .level })
+      (list-more (f .before .loop .inv .0) (f .device-at .ensures) (d .before .before .before .before .if1 .left) (d .device .ensures) (c .before .q .given .1), record { last = k .0 ∙ z .last; root = k .1 .0 ∙ z .root; level = k .1 .1 .0 ∙ z .level })
 
 pub +device+devices-spec : {M : Type 1} → statement M
 +device+devices-spec =
     close μ-device μ-devices
     (λ t. device-lts.spec (device-calls t) (device-at t) device.Post
     (λ c κs. search needs) (device-returns t) (λ c. search needs) (device-cast-own t) (λ c κs. search needs) (device-open-device-requires t)
-    (λ c. search needs) (λ c. search needs) (device-add-devices-2 t) (device-devices-requires t) (λ c. search needs) (λ c. search needs)
-    (device-add-end-refusal t) (λ c κs. search needs) (λ c. search needs) (λ c. search needs) (λ c. search needs) (device-returns-2 t)
-    (device-close-device-requires t) (λ c. search needs) (λ c. search needs) (λ c. search needs) (device-returns-3 t) (λ c. search needs)
-    (λ c. search needs) (λ c. search needs) (device-returns-4 t))
+    (λ c κs. search needs) (λ c. search needs) (device-add-t33 t) (device-close-device-requires t) (λ c. search needs) (λ c. search needs)
+    (λ c. search needs) (device-returns-2 t) (λ c. search needs) (λ c. search needs) (device-add-devices-2 t) (device-devices-requires t)
+    (λ c. search needs) (λ c. search needs) (device-add-end-refusal t) (λ c κs. search needs) (λ c. search needs) (λ c. search needs)
+    (λ c. search needs) (device-returns-3 t) (device-close-device-requires-2 t) (λ c. search needs) (λ c. search needs) (λ c. search needs)
+    (device-returns-4 t) (λ c. let d = c .before .before in let l = read t (d .before .before .before) in search (needs, d .close-device2 .kept, l .devices .kept, opened t l .open-device .kept)) (λ c. let d = c .before .before in let l = read t (d .before .before .before) in search (needs, d .close-device2 .kept, l .devices .kept, opened t l .open-device .kept)) (λ c. let d = c .before .before in let l = read t (d .before .before .before) in search (needs, d .close-device2 .kept, l .devices .kept, opened t l .open-device .kept)) (device-returns-5 t))
     (λ t. devices-lts.spec (devices-calls t) (devices-at t) devices.Post Inv μ
-    (devices-loop-holds t) (devices-line-at-requires t) (λ c. search needs) (λ c. search needs) (λ c. search needs) (devices-returns t)
+    (devices-loop-holds t) (devices-device-at-requires t) (λ c. search needs) (λ c. search needs) (λ c. search needs) (devices-returns t)
     (devices-device-requires t) (λ c. search needs) (λ c. search needs) (λ c. search needs) (λ c. search needs) (devices-returns-2 t) (λ c. search needs)
     (devices-loop-less t) (devices-loop-again t))

@@ -18,7 +18,7 @@ abbrev μ : tie.MeasureT-loop
 μ text room count last posts₀ begin p₀ posts p = length text - p .at
 
 -- where a line is found, from where its kind is told; where that is, from where its posting is added
-abbrev found : tie.After-is-posting Inv μ → tie.After-line-at Inv μ
+abbrev found : tie.After-is-posting Inv μ → tie.After-posting-at Inv μ
 found c = c .before .before
 
 abbrev told : tie.After-add-posting Inv μ → tie.After-is-posting Inv μ
@@ -27,14 +27,14 @@ told c = c .before .before .before
 loop-holds : tie.Need-loop-holds Inv μ
 loop-holds c = (search (posts-start, needs), search needs)
 
-line-at-requires : tie.Need-line-at-requires Inv μ
-line-at-requires c κs = c .loop .inv .0 .start .at-line .within
+posting-at-requires : tie.Need-posting-at-requires Inv μ
+posting-at-requires c κs = c .loop .inv .0 .start .at-line .within
 
 returns : tie.Need-returns Inv μ
 returns c =
     let i = c .before .before .before in
     let f = found i in
-    record { result = posts-refused (f .before .loop .inv .0) (f .line-at .ensures) (i .is-posting .ensures) (c .before .before .if1 .taken) (c .before .end-refusal .ensures) (c .if2 .taken) }
+    record { result = posts-refused (f .before .loop .inv .0) (f .posting-at .ensures) (i .is-posting .ensures) (c .before .before .if1 .taken) (c .before .end-refusal .ensures) (c .if2 .taken) }
 
 add-t21 : tie.Need-add-t21 Inv μ
 add-t21 c = let s = found (c .before .before .before) .before .loop .inv .0 .start .at-line in omega (arith, s .lined, s .within, s .fits)
@@ -43,7 +43,7 @@ returns-2 : tie.Need-returns-2 Inv μ
 returns-2 c =
     let i = c .before .before .before in
     let f = found i in
-    record { result = posts-ended (f .before .loop .inv .0) (f .line-at .ensures) (i .is-posting .ensures) (c .before .before .if1 .taken) (c .before .end-refusal .ensures) (c .if2 .left) }
+    record { result = posts-ended (f .before .loop .inv .0) (f .posting-at .ensures) (i .is-posting .ensures) (c .before .before .if1 .taken) (c .before .end-refusal .ensures) (c .if2 .left) }
 
 add-posting-requires : tie.Need-add-posting-requires Inv μ
 add-posting-requires c κs =
@@ -51,14 +51,14 @@ add-posting-requires c κs =
     let f = found i in
     let e = f .before .loop .inv .0 in
     let s = e .start in
-    (posting-here e (f .line-at .ensures) (i .is-posting .ensures) (c .before .if1 .left), ((s .lasts, omega (arith, s .devices, s .bounded .devices), e .more, s .holds, s .fits), e .sound))
+    (posting-here e (f .posting-at .ensures) (i .is-posting .ensures) (c .before .if1 .left), ((s .lasts, omega (arith, s .devices, s .bounded .devices), e .more, s .holds, s .fits), e .sound))
 
 returns-3 : tie.Need-returns-3 Inv μ
 returns-3 c =
     let d = c .before .before .before in
     let i = told d in
     let f = found i in
-    record { result = posting-refused (f .before .loop .inv .0) (f .line-at .ensures) (i .is-posting .ensures) (d .before .before .if1 .left) (d .add-posting .ensures) (c .if3 .taken) }
+    record { result = posting-refused (f .before .loop .inv .0) (f .posting-at .ensures) (i .is-posting .ensures) (d .before .before .if1 .left) (d .add-posting .ensures) (c .if3 .taken) }
 
 add-t24 : tie.Need-add-t24 Inv μ
 add-t24 c = let s = found (told (c .before .before .before)) .before .loop .inv .0 .start .at-line in omega (arith, s .lined, s .within, s .fits)
@@ -70,17 +70,17 @@ loop-less : tie.Need-loop-less Inv μ
 loop-less c =
     let i = told (c .before .before .before) in
     let f = found i in
-    omega (arith, posting-moves (f .before .loop .inv .0) (f .line-at .ensures) (i .is-posting .ensures) (c .before .before .before .before .before .if1 .left))
+    omega (arith, posting-moves (f .before .loop .inv .0) (f .posting-at .ensures) (i .is-posting .ensures) (c .before .before .before .before .before .if1 .left))
 
 loop-again : tie.Need-loop-again Inv μ
 loop-again c =
     let d = c .before .before .before in
     let i = told d in
     let f = found i in
-    (posting-added (f .before .loop .inv .0) (f .line-at .ensures) (i .is-posting .ensures) (d .before .before .if1 .left) (d .add-posting .ensures) (c .if3 .left), search needs)
+    (posting-added (f .before .loop .inv .0) (f .posting-at .ensures) (i .is-posting .ensures) (d .before .before .if1 .left) (d .add-posting .ensures) (c .if3 .left), search needs)
 
 pub read-postings-spec : {M : Type 1} → statement M
 read-postings-spec =
     tie.close
-    (tie.spec Inv μ loop-holds line-at-requires (λ c κs. search needs) (λ c κs. search needs) (λ c. search needs) returns add-t21 (λ c. search needs) returns-2
+    (tie.spec Inv μ loop-holds posting-at-requires (λ c κs. search needs) (λ c κs. search needs) (λ c. search needs) returns add-t21 (λ c. search needs) returns-2
     add-posting-requires (λ c. search needs) returns-3 add-t24 add-t25 loop-less loop-again)
