@@ -223,12 +223,14 @@ module _ {r : Room} {T : plants.Plant} (t : List ℕ) (p : Place) (depth top n :
       leaf-closes : 0 ≡ end-refusal (depth + 2) close-line
       leaf-closes = rw (ne-eqb (depth + 2) 0 (omega arith))
 
+      -- the facts that the code asks
       pub leaf-ready : (p .count < length (T₁ .last)) × (p .count + 1 ≤ 65535) × (p .line + 1 ≤ 65537)
       leaf-ready = close-ready leaf-list refl leaf-closes
 
-      pub leaf-ended : {L : List ℕ} → L ≡ set (T₁ .last) (p .count) (p .count + 1) → {after : Place} → after ≡ line-after leaf-stop next
-          → DeviceRead r t T n p depth top (plants.plant L (T₁ .root) (T₁ .level)) (ending.Ended after)
-      leaf-ended k j = device-ended leaf-list refl leaf-closes refl k j
+      pub leaf-ended : DeviceRead r t T n p depth top (closed-at T₁ (p .count) (p .count + 1)) (ending.Ended (record { at = next; line = p .line + 2; count = p .count + 1 }))
+      leaf-ended =
+          let l : p .line + 1 + 1 ≡ p .line + 2 = omega arith in
+          rw (← l) (device-ended leaf-list refl leaf-closes refl refl refl)
 
 -- each table is as long as it was
 pub record PlantSizes (T₀ T : plants.Plant) : Type 0 where

@@ -105,12 +105,13 @@ fn device(
     open_device(count, out, n, last, root, level);
     let next = close_at(text, place.at);
     if 0 < next {
-        let stop = Place {
+        last[count] = own;
+        let after = Place {
             at: next,
-            line: line + 1,
+            line: line + 2,
             count: count + 1,
         };
-        return Ending::Ended(close_device(count, stop, last));
+        return Ending::Ended(after);
     }
     let inside = Place {
         at: place.at,
@@ -157,7 +158,13 @@ pub fn devices(
             count: p.count,
         };
         if f.kind != DEVICE {
-            return Listed::Stopped(f, here);
+            // made anew: handed on whole, it would be read in other pieces than it was written in, and wait for them
+            let stopping = Form {
+                before: f.before,
+                number: f.number,
+                kind: f.kind,
+            };
+            return Listed::Stopped(stopping, here);
         }
         match device(text, room, here, depth, top, f.number, last, root, level) {
             Ending::Refused(x, l) => {

@@ -55,12 +55,12 @@ device-calls t = (
   open-device-reads.Learnt,
   close-at-reads.Asked,
   close-at-reads.Learnt,
-  close-device-reads.Asked,
-  close-device-reads.Learnt,
   devices-below t,
   devices.Post,
   end-refusal-reads.Asked,
   end-refusal-reads.Learnt,
+  close-device-reads.Asked,
+  close-device-reads.Learnt,
 )
 
 abbrev devices-calls : ℕ → devices-lts.Claims
@@ -98,25 +98,31 @@ module _ (t : ℕ) where
       omega (arith, passed e, s .fits .last, s .fits .root, s .fits .level)
 
   -- where a device feeds none
-  device-add-t33 : device-lts.Need-add-t33 (device-calls t) (device-at t) device.Post
-  device-add-t33 c = omega (arith, passed (tested (c .before .before .before .before .before .before .before .before)))
+  abbrev leaf-opened : device-lts.Then2 (device-calls t) (device-at t) device.Post → device-lts.After-open-device (device-calls t) (device-at t) device.Post
+  leaf-opened c = c .before .before .before .before .before .before .before .before
 
-  device-close-device-requires : device-lts.Need-close-device-requires (device-calls t) (device-at t) device.Post
-  device-close-device-requires c κs =
-      let o = c .before .before .before .before .before .before .before .before .before in
+  device-slice-write-last : device-lts.Need-slice-write-last (device-calls t) (device-at t) device.Post
+  device-slice-write-last c =
+      let o = leaf-opened c in
       let e = tested o in
       let p = e .before .before .before .before .before .before in
       leaf-ready (p .args .text .now) (p .args .place) (p .args .depth) (p .args .top) (p .args .n) (e .before .device-refusal .ensures) (p .pre .1) (e .if1 .left)
-      (o .before .before .before .before .outer .ensures) (o .open-device .ensures) (c .before .before .close-at .ensures) (c .before .if2 .taken)
+      (o .before .before .before .before .outer .ensures) (o .open-device .ensures) (c .before .close-at .ensures) (c .if2 .taken) .0
+
+  device-add-t34 : device-lts.Need-add-t34 (device-calls t) (device-at t) device.Post
+  device-add-t34 c =
+      let s = tested (leaf-opened c) .before .before .before .before .before .before .pre .1 .start .at-line in
+      record { fits = omega (arith, s .lined, s .within, s .fits) }
+
+  device-add-t32 : device-lts.Need-add-t32 (device-calls t) (device-at t) device.Post
+  device-add-t32 c = record { fits = omega (arith, passed (tested (leaf-opened c))) }
 
   device-returns-2 : device-lts.Need-returns-2 (device-calls t) (device-at t) device.Post
   device-returns-2 c =
-      let d = c .before .before in
-      let o = d .before .before .before .before .before .before .before .before .before .before in
+      let o = leaf-opened c in
       let e = tested o in
       leaf-ended _ _ _ _ _ (e .before .device-refusal .ensures) (e .before .before .before .before .before .before .pre .1) (e .if1 .left)
-      (o .before .before .before .before .outer .ensures) (o .open-device .ensures) (d .before .before .before .close-at .ensures) (d .before .before .if2 .taken)
-      (d .close-device .ensures .0) (d .close-device .ensures .1)
+      (o .before .before .before .before .outer .ensures) (o .open-device .ensures) (c .before .close-at .ensures) (c .if2 .taken)
 
   device-add-devices-2 : device-lts.Need-add-devices-2 (device-calls t) (device-at t) device.Post
   device-add-devices-2 c = omega (arith, passed (tested (c .before .before .before .before .before .before .before .before)))
@@ -142,8 +148,8 @@ module _ (t : ℕ) where
       device-open _ _ _ _ _ (e .before .device-refusal .ensures) (e .before .before .before .before .before .before .pre .1) (e .if1 .left) (o .before .before .before .before .outer .ensures) (o .open-device .ensures) (l .devices .ensures)
       (c .before .before .before .f .given .1) (c .before .end-refusal .ensures) (c .if3 .taken)
 
-  device-close-device-requires-2 : device-lts.Need-close-device-requires-2 (device-calls t) (device-at t) device.Post
-  device-close-device-requires-2 c κs =
+  device-close-device-requires : device-lts.Need-close-device-requires (device-calls t) (device-at t) device.Post
+  device-close-device-requires c κs =
       let l = read (c .before .before) in
       let o = opened l in
       let e = tested o in
@@ -167,7 +173,7 @@ module _ (t : ℕ) where
       let o = opened l in
       let e = tested o in
       device-ended _ _ _ _ _ (e .before .device-refusal .ensures) (e .before .before .before .before .before .before .pre .1) (e .if1 .left) (o .before .before .before .before .outer .ensures) (o .open-device .ensures) (l .devices .ensures)
-      (r .before .before .f .given .1) (r .end-refusal .ensures) (d .before .before .if3 .left) (d .close-device2 .ensures .0) (d .close-device2 .ensures .1)
+      (r .before .before .f .given .1) (r .end-refusal .ensures) (d .before .before .if3 .left) (d .close-device .ensures .0) (d .close-device .ensures .1)
 
 -- devices: what has been read of the list, in tables of the same sizes
 abbrev Inv : devices-lts.InvT-loop
@@ -224,11 +230,11 @@ pub +device+devices-spec : {M : Type 1} → statement M
     close μ-device μ-devices
     (λ t. device-lts.spec (device-calls t) (device-at t) device.Post
     (λ c κs. search needs) (device-returns t) (λ c. search needs) (device-cast-own t) (λ c κs. search needs) (device-open-device-requires t)
-    (λ c κs. search needs) (λ c. search needs) (device-add-t33 t) (device-close-device-requires t) (λ c. search needs) (λ c. search needs)
+    (λ c κs. search needs) (λ c. search needs) (device-slice-write-last t) (device-add-t34 t) (device-add-t32 t) (λ c. search needs) (λ c. search needs)
     (λ c. search needs) (device-returns-2 t) (λ c. search needs) (λ c. search needs) (device-add-devices-2 t) (device-devices-requires t)
     (λ c. search needs) (λ c. search needs) (device-add-end-refusal t) (λ c κs. search needs) (λ c. search needs) (λ c. search needs)
-    (λ c. search needs) (device-returns-3 t) (device-close-device-requires-2 t) (λ c. search needs) (λ c. search needs) (λ c. search needs)
-    (device-returns-4 t) (λ c. let d = c .before .before in let l = read t (d .before .before .before) in search (needs, d .close-device2 .kept, l .devices .kept, opened t l .open-device .kept)) (λ c. let d = c .before .before in let l = read t (d .before .before .before) in search (needs, d .close-device2 .kept, l .devices .kept, opened t l .open-device .kept)) (λ c. let d = c .before .before in let l = read t (d .before .before .before) in search (needs, d .close-device2 .kept, l .devices .kept, opened t l .open-device .kept)) (device-returns-5 t))
+    (λ c. search needs) (device-returns-3 t) (device-close-device-requires t) (λ c. search needs) (λ c. search needs) (λ c. search needs)
+    (device-returns-4 t) (λ c. let d = c .before .before in let l = read t (d .before .before .before) in search (needs, d .close-device .kept, l .devices .kept, opened t l .open-device .kept)) (λ c. let d = c .before .before in let l = read t (d .before .before .before) in search (needs, d .close-device .kept, l .devices .kept, opened t l .open-device .kept)) (λ c. let d = c .before .before in let l = read t (d .before .before .before) in search (needs, d .close-device .kept, l .devices .kept, opened t l .open-device .kept)) (device-returns-5 t))
     (λ t. devices-lts.spec (devices-calls t) (devices-at t) devices.Post Inv μ
     (devices-loop-holds t) (devices-device-at-requires t) (λ c. search needs) (λ c. search needs) (λ c. search needs) (devices-returns t)
     (devices-device-requires t) (λ c. search needs) (λ c. search needs) (λ c. search needs) (λ c. search needs) (devices-returns-2 t) (λ c. search needs)
