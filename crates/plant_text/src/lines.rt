@@ -83,19 +83,19 @@ pub fn posting_at(text: &[u8], at: usize) -> Found
     line_at(text, at)
 }
 
-// The same, one pattern after another.
+// The same by the rows of the table, one asked after the other.
 fn plain_line(text: &[u8], at: usize) -> Found
     requires { ⌜ at ≤ length (now text) ⌝ }
     ensures { λ r. ⌜ r ≡ «found-at» «highest-known» rows (now (text .entry)) at ⌝ }
 {
-    let none = text::no_form();
-    let close = text::row(text, at, CLOSE, b")", LIMIT, none);
-    let all = text::row(text, at, ALL, b"(all #)", LIMIT, close);
-    let own = text::row(text, at, OWN, b"(own #)", LIMIT, all);
-    let term = text::row(text, at, TERM, b"(mark #", LIMIT, own);
-    let device = text::row(text, at, DEVICE, b"(dev #", LIMIT, term);
-    let plant = text::row(text, at, PLANT, b"(plant", LIMIT, device);
-    text::line_at(text, at, plant)
+    let form = text::no_form();
+    let form = text::row(text, at, PLANT, b"(plant", LIMIT, form);
+    let form = text::row(text, at, DEVICE, b"(dev #", LIMIT, form);
+    let form = text::row(text, at, TERM, b"(mark #", LIMIT, form);
+    let form = text::row(text, at, OWN, b"(own #)", LIMIT, form);
+    let form = text::row(text, at, ALL, b"(all #)", LIMIT, form);
+    let form = text::row(text, at, CLOSE, b")", LIMIT, form);
+    text::line_at(text, at, form)
 }
 
 // Whether a line of a kind is a posting's.

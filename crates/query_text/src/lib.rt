@@ -118,18 +118,18 @@ fn is_finished(draft: Draft, left: usize) -> bool
     draft.stage == CLOSED && left == 0
 }
 
-// The line that begins at `at`: its form is that of the first row that it fits, and the rows stand here from the last to the first.
+// The line that begins at `at`, by the rows of the table, one asked after the other.
 fn line_at(text: &[u8], at: usize) -> Found
     ensures { λ r. ⌜ r ≡ found-at largest-number rows (now (text .entry)) at ⌝ }
 {
     let form = text::no_form();
-    let form = text::row(text, at, CLOSE, b")", LARGEST_NUMBER, form);
-    let form = text::row(text, at, BUDGET, b"(moves #)", LARGEST_NUMBER, form);
-    let form = text::row(text, at, START, b"(from #)", LARGEST_NUMBER, form);
-    let form = text::row(text, at, LEVEL, b"(level # #)", LARGEST_NUMBER, form);
-    let form = text::row(text, at, FORBIDDEN, b"(not #)", LARGEST_NUMBER, form);
-    let form = text::row(text, at, REQUIRED, b"(need #)", LARGEST_NUMBER, form);
     let form = text::row(text, at, OPEN, b"(ask", LARGEST_NUMBER, form);
+    let form = text::row(text, at, REQUIRED, b"(need #)", LARGEST_NUMBER, form);
+    let form = text::row(text, at, FORBIDDEN, b"(not #)", LARGEST_NUMBER, form);
+    let form = text::row(text, at, LEVEL, b"(level # #)", LARGEST_NUMBER, form);
+    let form = text::row(text, at, START, b"(from #)", LARGEST_NUMBER, form);
+    let form = text::row(text, at, BUDGET, b"(moves #)", LARGEST_NUMBER, form);
+    let form = text::row(text, at, CLOSE, b")", LARGEST_NUMBER, form);
     text::line_at(text, at, form)
 }
 

@@ -115,8 +115,18 @@ module _ (t : List ℕ) (at : ℕ) where
       either (eqb (getD t at 0) 10) (λ q. rw (q, line-nil t at h (eqb-true (getD t at 0) 10 q)))
       (λ q. rw (q, line-cons t at h (eqb-false (getD t at 0) 10 q), ne-eqb (suc (length (line-at t (at + 1)))) 0 (omega arith)))
 
-pub begins-from : (w t : List ℕ) (at : ℕ) {from : ℕ} {b : Bool} → from ≡ min at (length t) → b ≡ begins w (take (length t - from) (drop from t)) → b ≡ begins w (drop at t)
-begins-from w t at {from} e q = q ∙ rw (drop-take from t, e, drop-clamped at t)
+-- a word from an index on, as the code finds it
+module _ (w t : List ℕ) (at : ℕ) where
+  pub begins-past : length t ≤ at → eqb (length w) 0 ≡ begins w (drop at t)
+  unfolding begins
+  begins-past h = rw (drop-of-length-le t {i = at} h) (go w)
+    where
+      go : (w : List ℕ) → eqb (length w) 0 ≡ begins w []
+      go [] = refl
+      go (x ∷ xs) = ne-eqb (suc (length xs)) 0 (omega arith)
+
+  pub begins-from : {b : Bool} → b ≡ begins w (take (length t - at) (drop at t)) → b ≡ begins w (drop at t)
+  begins-from q = q ∙ rw (drop-take at t)
 
 -- where the next line begins
 module _ (t : List ℕ) (at : ℕ) where

@@ -8,8 +8,13 @@ ghost use lib.ListN.{length, getD, drop};
 ghost use Rattle.text.specs.Lines.{begins, «bytes-before», «line-at», «whole-at», «next-at»};
 ghost use Rattle.text.specs.Decimal.{digit, «up-to», «number-at»};
 ghost use Rattle.text.specs.Patterns.{fit, misfit, «capped-fit»};
-ghost use Rattle.text.specs.Forms.{other, unfinished, plain, fitted};
+ghost use Rattle.text.specs.Forms.{other, unfinished, plain, «row-after»};
 ghost use Rattle.text.specs.inner.Parts.{«zero-at», «no-scan», On, Past};
+
+// The kinds of every text: bytes that end without a line feed, and a line that fits no pattern.
+const UNFINISHED: u32 = 0;
+
+const OTHER: u32 = 1;
 
 // A number in a text: its value, one past the limit where it is above that, and where it ends: where it would begin, if none is there.
 pub struct NumberAt {
@@ -49,8 +54,10 @@ struct Scan {
 pub fn is_at(text: &[u8], at: usize, word: &[u8]) -> bool
     ensures { λ r. ⌜ r ≡ begins (now (word .entry)) (drop at (now (text .entry))) ⌝ }
 {
-    let from = integers::least(at, text.len());
-    begins(&text[from..], word)
+    if text.len() <= at {
+        return word.len() == 0;
+    }
+    begins(&text[at..], word)
 }
 
 // The number that begins at `at`: 0, or digits without a leading zero.
@@ -121,21 +128,24 @@ pub fn fits(text: &[u8], at: usize, pattern: &[u8], limit: u32) -> Fit
     misfit()
 }
 
-// The form of the line that begins at `at`, if it fits a pattern; else the form `rest`.
-pub fn row(text: &[u8], at: usize, kind: u32, pattern: &[u8], limit: u32, rest: Form) -> Form
-    ensures { λ r. ⌜ r ≡ fitted kind («capped-fit» limit (fit (now (pattern .entry)) («line-at» (now (text .entry)) at))) rest ⌝ }
+// The form of the line that begins at `at`, where the rows of a table before this one gave `form`.
+pub fn row(text: &[u8], at: usize, kind: u32, pattern: &[u8], limit: u32, form: Form) -> Form
+    ensures { λ r. ⌜ r ≡ «row-after» limit kind (now (pattern .entry)) («line-at» (now (text .entry)) at) form ⌝ }
 {
+    if form.kind != OTHER {
+        return form;
+    }
     let found = fits(text, at, pattern, limit);
     let before = found.before;
     let number = found.number;
     if found.fits {
         return Form {
-            kind: kind,
             before: before,
             number: number,
+            kind: kind,
         };
     }
-    rest
+    form
 }
 
 // The form of a line that fits no pattern.
@@ -143,9 +153,9 @@ pub fn no_form() -> Form
     ensures { λ r. ⌜ r ≡ plain other ⌝ }
 {
     Form {
-        kind: 1,
         before: 0,
         number: 0,
+        kind: OTHER,
     }
 }
 
@@ -163,9 +173,9 @@ pub fn line_at(text: &[u8], at: usize, form: Form) -> Found
         };
     }
     let none = Form {
-        kind: 0,
         before: 0,
         number: 0,
+        kind: UNFINISHED,
     };
     Found {
         form: none,
