@@ -175,6 +175,25 @@ module _ (t : ℕ) where
       device-ended _ _ _ _ _ (e .before .device-refusal .ensures) (e .before .before .before .before .before .before .pre .1) (e .if1 .left) (o .before .before .before .before .outer .ensures) (o .open-device .ensures) (l .devices .ensures)
       (r .before .before .f .given .1) (r .end-refusal .ensures) (d .before .before .if3 .left) (d .close-device .ensures .0) (d .close-device .ensures .1)
 
+  -- tables of the same sizes come back where a device ends
+  device-same-length-10 : device-lts.Need-same-length-10 (device-calls t) (device-at t) device.Post
+  device-same-length-10 c =
+      let d = c .before .before in
+      let l = read (d .before .before .before) in
+      search (needs, d .close-device .kept, l .devices .kept, opened l .open-device .kept)
+
+  device-same-length-11 : device-lts.Need-same-length-11 (device-calls t) (device-at t) device.Post
+  device-same-length-11 c =
+      let d = c .before .before in
+      let l = read (d .before .before .before) in
+      search (needs, d .close-device .kept, l .devices .kept, opened l .open-device .kept)
+
+  device-same-length-12 : device-lts.Need-same-length-12 (device-calls t) (device-at t) device.Post
+  device-same-length-12 c =
+      let d = c .before .before in
+      let l = read (d .before .before .before) in
+      search (needs, d .close-device .kept, l .devices .kept, opened l .open-device .kept)
+
 -- devices: what has been read of the list, in tables of the same sizes
 abbrev Inv : devices-lts.InvT-loop
 Inv text room depth top last₀ root₀ level₀ p₀ last root level p =
@@ -234,7 +253,7 @@ pub +device+devices-spec : {M : Type 1} → statement M
     (λ c. search needs) (device-returns-2 t) (λ c. search needs) (λ c. search needs) (device-add-devices-2 t) (device-devices-requires t)
     (λ c. search needs) (λ c. search needs) (device-add-end-refusal t) (λ c κs. search needs) (λ c. search needs) (λ c. search needs)
     (λ c. search needs) (device-returns-3 t) (device-close-device-requires t) (λ c. search needs) (λ c. search needs) (λ c. search needs)
-    (device-returns-4 t) (λ c. let d = c .before .before in let l = read t (d .before .before .before) in search (needs, d .close-device .kept, l .devices .kept, opened t l .open-device .kept)) (λ c. let d = c .before .before in let l = read t (d .before .before .before) in search (needs, d .close-device .kept, l .devices .kept, opened t l .open-device .kept)) (λ c. let d = c .before .before in let l = read t (d .before .before .before) in search (needs, d .close-device .kept, l .devices .kept, opened t l .open-device .kept)) (device-returns-5 t))
+    (device-returns-4 t) (device-same-length-10 t) (device-same-length-11 t) (device-same-length-12 t) (device-returns-5 t))
     (λ t. devices-lts.spec (devices-calls t) (devices-at t) devices.Post Inv μ
     (devices-loop-holds t) (devices-device-at-requires t) (λ c. search needs) (λ c. search needs) (λ c. search needs) (devices-returns t)
     (devices-device-requires t) (λ c. search needs) (λ c. search needs) (λ c. search needs) (λ c. search needs) (devices-returns-2 t) (λ c. search needs)
