@@ -17,7 +17,7 @@ use Rattle.laws.proofs.Cases.{either}
 use Rattle.plant.specs.Plant as plants
 use Rattle.index.specs.Index as indexes
 use Rattle.index.specs.Index.{index, most-postings}
-use Rattle.text.specs.Forms.{found-at}
+use Rattle.text.specs.inner.Finding.{found-at}
 use Rattle.text.specs.Reading.{Read, no}
 use Rattle.text.specs.declared.Form.{Form}
 use Rattle.text.specs.declared.Found.{Found}

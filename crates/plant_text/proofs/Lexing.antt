@@ -10,7 +10,8 @@ use Rattle.laws.proofs.Tests.{not-no}
 use Rattle.text.specs.Lines.{begins, line-at}
 use Rattle.text.specs.Decimal.{number-at}
 use Rattle.text.specs.Patterns.{bytes, fit, fit-after}
-use Rattle.text.specs.Forms.{plain, other, fitted, form, found-at}
+use Rattle.text.specs.Forms.{plain, other, fitted, form}
+use Rattle.text.specs.inner.Finding.{found-at}
 use Rattle.text.specs.declared.Found.{Found}
 use Rattle.text.specs.declared.NumberAt.{NumberAt}
 use Rattle.text.proofs.Known.{literal, there-begins, line-word, known-fit, known-next, known-found, known-alone}

@@ -13,7 +13,8 @@ use Rattle.laws.specs.Rows.{pick}
 use Rattle.laws.proofs.Rows.{pick-none}
 use Rattle.laws.proofs.Tests.{tests, flags}
 use Rattle.plant.specs.Plant as plants
-use Rattle.text.specs.Forms.{plain, found-at}
+use Rattle.text.specs.Forms.{plain}
+use Rattle.text.specs.inner.Finding.{found-at}
 use Rattle.text.specs.Reading.{Read, no}
 use Rattle.text.specs.declared.Form.{Form}
 use Rattle.text.specs.declared.Found.{Found}

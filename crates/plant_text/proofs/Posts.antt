@@ -17,7 +17,8 @@ use Rattle.laws.proofs.Cases.{either}
 use Rattle.plant.specs.Plant.{size}
 use Rattle.index.specs.Postings.{device, shared, reach, shadowed}
 use Rattle.index.specs.inner.Lists.{SoundList}
-use Rattle.text.specs.Forms.{unfinished, found-at}
+use Rattle.text.specs.Forms.{unfinished}
+use Rattle.text.specs.inner.Finding.{found-at}
 use Rattle.text.specs.Reading.{Read, no}
 use Rattle.text.specs.declared.Found.{Found}
 use Rattle.plant_text.specs.Form.{all-line, close-line, rows, is-posting}

@@ -14,7 +14,8 @@ use Rattle.laws.proofs.Tests.{refuted, not-no}
 use Rattle.plant.specs.Plant.{size}
 use Rattle.text.specs.Lines.{next-at}
 use Rattle.text.specs.Decimal.{up-to}
-use Rattle.text.specs.Forms.{unfinished, plain, capped-form, form-at, found-at}
+use Rattle.text.specs.Forms.{unfinished, plain}
+use Rattle.text.specs.inner.Finding.{capped-form, form-at, found-at}
 use Rattle.text.specs.Reading.{Step, refused, no, unless, and-then}
 use Rattle.text.specs.declared.Form.{Form}
 use Rattle.text.specs.declared.Found.{Found}

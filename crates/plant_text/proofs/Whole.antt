@@ -16,7 +16,8 @@ use Rattle.plant.specs.Plant as plants
 use Rattle.plant.specs.Plant.{plant}
 use Rattle.index.specs.Index as indexes
 use Rattle.index.specs.Index.{index}
-use Rattle.text.specs.Forms.{unfinished, form-at, found-at}
+use Rattle.text.specs.Forms.{unfinished}
+use Rattle.text.specs.inner.Finding.{form-at, found-at}
 use Rattle.text.specs.Reading.{Read, made, no}
 use Rattle.text.specs.declared.Form.{Form}
 use Rattle.text.specs.declared.Found.{Found}

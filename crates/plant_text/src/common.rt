@@ -13,13 +13,13 @@ use text::Form;
 use text::Found;
 
 // The four bytes after the bracket of `(dev `, `(mark `, `(own ` and `(all `, as numbers.
-const DEV_WORD: u32 = 544630116;
+const DEV_WORD: u32 = 544_630_116;
 
-const MARK_WORD: u32 = 1802658157;
+const MARK_WORD: u32 = 1_802_658_157;
 
-const OWN_WORD: u32 = 544110447;
+const OWN_WORD: u32 = 544_110_447;
 
-const ALL_WORD: u32 = 543976545;
+const ALL_WORD: u32 = 543_976_545;
 
 // A line that opens with a bracket: the four bytes after it, and a number further on with the index after it; that index is 0 where the line does
 // not open so.
@@ -66,7 +66,7 @@ fn four(text: &[u8], at: usize) -> u32
     let b = byte(text[at + 1]);
     let c = byte(text[at + 2]);
     let d = byte(text[at + 3]);
-    a + 256 * b + 65536 * c + 16777216 * d
+    a + 256 * b + 65_536 * c + 16_777_216 * d
 }
 
 fn no_start() -> Start

@@ -107,9 +107,9 @@ fn room_of(
 ) -> Room
     ensures { λ r. ⌜ r ≡ places last root level terms starts postings ⌝ }
 {
-    let devices = least(65535, least(last, least(root, level)));
-    let both = least(8192, least(terms, starts));
-    let most = least(1048576, postings);
+    let devices = least(65_535, least(last, least(root, level)));
+    let both = least(8_192, least(terms, starts));
+    let most = least(1_048_576, postings);
     Room {
         devices: devices,
         terms: both,
@@ -136,7 +136,7 @@ fn read_all(
         (index (now (terms .exit)) (now (starts .exit)) (now (postings .exit)))
         r ⌝ }
 {
-    if 65536 < text.len() {
+    if 65_536 < text.len() {
         return Outcome::Refused(20, 0);
     }
     let first = line_at(text, 0);

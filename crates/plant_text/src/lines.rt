@@ -2,7 +2,7 @@
 ghost use mathlib.Core.Path.{_≡_};
 ghost use Prim.Native.Nat.{_≤_};
 ghost use lib.ListN.{length};
-ghost use Rattle.text.specs.Forms.{«found-at»};
+ghost use Rattle.text.specs.inner.Finding.{«found-at»};
 ghost use Rattle.plant_text.specs.Form.{rows, «is-posting»};
 ghost use Rattle.plant_text.specs.inner.Rest.{«highest-known», «end-refusal», «start-refusal»};
 use crate::common::close_at;
@@ -13,7 +13,7 @@ use crate::common::term_line;
 use text::Found;
 
 // Numbers above this are read as one above it.
-pub const LIMIT: u32 = 65535;
+pub const LIMIT: u32 = 65_535;
 
 // The kinds of line.
 const UNFINISHED: u32 = 0;

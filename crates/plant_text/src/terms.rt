@@ -175,7 +175,7 @@ fn term_refusal(v: u64, most: usize, count: usize, newest: u16) -> u32
     if v == 0 {
         return 22;
     }
-    if 65535 < v {
+    if 65_535 < v {
         return 22;
     }
     if most <= count {

@@ -10,7 +10,8 @@ use Rattle.laws.specs.Rows.{pick}
 use Rattle.laws.proofs.Rows.{pick-none}
 use Rattle.laws.proofs.Tests.{tests, flags}
 use Rattle.laws.proofs.Cases.{either}
-use Rattle.text.specs.Forms.{unfinished, capped-form}
+use Rattle.text.specs.Forms.{unfinished}
+use Rattle.text.specs.inner.Finding.{capped-form}
 use Rattle.text.specs.Decimal.{up-to}
 use Rattle.text.specs.Reading.{refused, unless}
 use Rattle.text.specs.declared.Form.{Form}

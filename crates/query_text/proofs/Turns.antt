@@ -9,7 +9,8 @@ use native.Mathlib.Omega.{arith}
 use borrow.Author.Tests.{lt-ltb, le-ltb}
 use Rattle.laws.specs.Limits.{largest-number}
 use Rattle.laws.specs.Rows.{pick}
-use Rattle.text.specs.Forms.{unfinished, plain, form-at, found-at}
+use Rattle.text.specs.Forms.{unfinished, plain}
+use Rattle.text.specs.inner.Finding.{form-at, found-at}
 use Rattle.text.specs.Reading.{refused, made, no, unless, and-then, reading-forms}
 use Rattle.text.specs.declared.Found.{Found}
 use Rattle.text.proofs.Lines.{next-within, next-onward}

@@ -7,15 +7,15 @@ ghost use mathlib.Core.Path.{_≡_};
 ghost use mathlib.Core.Bool.{false, _&&_};
 ghost use lib.Dec.{eqb};
 ghost use Rattle.laws.specs.Limits.{largest-number};
-ghost use Rattle.text.specs.Forms.{found-at};
+ghost use Rattle.text.specs.inner.Finding.{found-at};
 ghost use Rattle.text.specs.Reading.{made, no};
 ghost use Rattle.query_text.specs.Form.{rows, repeats};
 ghost use Rattle.query_text.specs.QueryText.{begun, closed, next-stage, out-of-order, over, ninth, line-refusal, with-form, with-line, told, read-query};
 
 // The largest number of a line. A larger one is read as one above it.
-const LARGEST_NUMBER: u32 = 4294967295;
+const LARGEST_NUMBER: u32 = 4_294_967_295;
 
-const LONGEST_TEXT: usize = 4096;
+const LONGEST_TEXT: usize = 4_096;
 
 // The kinds of line, in the order in which they stand. An unfinished one is below them all.
 const UNFINISHED: u32 = 0;

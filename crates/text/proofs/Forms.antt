@@ -12,7 +12,8 @@ use Rattle.laws.proofs.Cases.{either}
 use Rattle.text.specs.Lines.{bytes-before, line-at, whole-at, next-at}
 use Rattle.text.specs.Decimal.{up-to}
 use Rattle.text.specs.Patterns.{fit, capped-fit}
-use Rattle.text.specs.Forms.{Row, unfinished, other, plain, fitted, form, row-after, capped-form, form-at, found-at}
+use Rattle.text.specs.Forms.{Row, unfinished, other, plain, fitted, form, row-after}
+use Rattle.text.specs.inner.Finding.{capped-form, form-at, found-at}
 use Rattle.text.specs.declared.Fit.{Fit}
 use Rattle.text.specs.declared.Form.{Form}
 use Rattle.text.specs.declared.Found.{Found}

@@ -14,7 +14,8 @@ use Rattle.laws.proofs.Cases.{by-order}
 use Rattle.text.specs.Lines.{begins, line-at, whole-at, next-at}
 use Rattle.text.specs.Decimal.{number, digits, behind, up-to, number-at}
 use Rattle.text.specs.Patterns.{any-number, fit, fit-after, fitting, capped-fit}
-use Rattle.text.specs.Forms.{Row, plain, fitted, form, found-at}
+use Rattle.text.specs.Forms.{Row, plain, fitted, form}
+use Rattle.text.specs.inner.Finding.{found-at}
 use Rattle.text.specs.declared.Fit.{Fit}
 use Rattle.text.specs.declared.Form.{Form}
 use Rattle.text.specs.declared.NumberAt.{NumberAt}

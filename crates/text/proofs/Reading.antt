@@ -10,7 +10,8 @@ use borrow.Author.Tests.{ltb-true, ltb-false, eqb-true}
 use Rattle.laws.proofs.Tests.{and-yes}
 use Rattle.laws.proofs.Cases.{either}
 use Rattle.text.specs.Lines.{line-at, whole-at, next-at}
-use Rattle.text.specs.Forms.{Row, plain, unfinished, form-at}
+use Rattle.text.specs.Forms.{Row, plain, unfinished}
+use Rattle.text.specs.inner.Finding.{form-at}
 use Rattle.text.specs.Reading.{Step, refused, Read, made, no, unless, and-then, read-lines, reading, line-of, end-of, reading-forms}
 use Rattle.text.specs.declared.Form.{Form}
 use Rattle.text.proofs.Lines.{lines-whole, lines-tail}

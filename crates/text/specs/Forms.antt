@@ -4,12 +4,9 @@ use Prim.Native.String.{String}
 use mathlib.Core.Bool.{cond}
 use mathlib.Core.List.{List, [], _∷_}
 use lib.Dec.{eqb}
-use Rattle.text.specs.Lines.{line-at, whole-at, next-at}
-use Rattle.text.specs.Decimal.{up-to}
 use Rattle.text.specs.Patterns.{bytes, fit, capped-fit}
 use Rattle.text.specs.declared.Fit.{Fit}
 use Rattle.text.specs.declared.Form.{Form}
-use Rattle.text.specs.declared.Found.{Found}
 
 -- the kind of line that a pattern is for
 pub record Row : Type 0 where
@@ -39,17 +36,6 @@ unfoldable pub form : List Row → List ℕ → Form
 form [] l = plain other
 form (r ∷ rs) l = fitted (r .kind) (fit (r .pattern) l) (form rs l)
 
-abbrev pub capped-form : ℕ → Form → Form
-capped-form limit f = record { kind = f .kind; before = up-to limit (f .before); number = up-to limit (f .number) }
-
 -- the form of a line by the rows asked so far, and one row more, its numbers up to a limit
 unfoldable pub row-after : ℕ → ℕ → List ℕ → List ℕ → Form → Form
 row-after limit kind pattern l f = cond (eqb (f .kind) other) (fitted kind (capped-fit limit (fit pattern l)) f) f
-
--- the form of what begins at an index of a text
-abbrev pub form-at : List Row → List ℕ → ℕ → Form
-form-at rows t at = cond (whole-at t at) (form rows (line-at t at)) (plain unfinished)
-
--- and as a reader finds it: its numbers up to a limit, and where the next line begins
-abbrev pub found-at : ℕ → List Row → List ℕ → ℕ → Found
-found-at limit rows t at = record { form = capped-form limit (form-at rows t at); next = next-at t at }

@@ -5,7 +5,8 @@ use mathlib.Core.List.{List}
 use lib.ListN.{length, getD}
 use Rattle.laws.specs.Limits.{highest-term}
 use Rattle.text.specs.Decimal.{number-at}
-use Rattle.text.specs.Forms.{plain, found-at}
+use Rattle.text.specs.Forms.{plain}
+use Rattle.text.specs.inner.Finding.{found-at}
 use Rattle.text.specs.declared.Found.{Found}
 use Rattle.plant_text.specs.Form.{close-line, rows}
 use Rattle.plant_text.specs.declared.common.Start.{Start}
@@ -20,7 +21,7 @@ pub record Closes (t : List ℕ) (at next : ℕ) : Type 0 where
 
 -- four bytes of a text as one number
 pub record Four (t : List ℕ) (at r : ℕ) : Type 0 where
-  pub sum : r ≡ getD t at 0 + 256 * getD t (at + 1) 0 + 65536 * getD t (at + 2) 0 + 16777216 * getD t (at + 3) 0
+  pub sum : r ≡ getD t at 0 + 256 * getD t (at + 1) 0 + 65_536 * getD t (at + 2) 0 + 16_777_216 * getD t (at + 3) 0
   pub first : getD t at 0 ≤ 255
   pub second : getD t (at + 1) 0 ≤ 255
   pub third : getD t (at + 2) 0 ≤ 255
