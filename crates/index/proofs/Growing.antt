@@ -1,7 +1,7 @@
 -- An index that grows by a term or a posting: what is accepted stays so.
 use Prim.Native.Nat.{ℕ, _+_, _-_, _*_, _<_, _≤_}
 use mathlib.Core.Path.{_≡_, refl, sym, _∙_}
-use mathlib.Core.Bool.{Bool, true, false, cond, true≢false}
+use mathlib.Core.Bool.{Bool, true, false, cond}
 use mathlib.Core.List.{List, [], _∷_, _++_}
 use native.Mathlib.Omega.{arith}
 use borrow.Author.Tests.{lt-leb}
@@ -17,7 +17,7 @@ use Rattle.laws.proofs.Cases.{by-order}
 use Rattle.laws.proofs.Lists.{getD-within}
 use Rattle.laws.proofs.Search.{any-none, none-any}
 use Rattle.plant.specs.Plant.{Plant, size, plant-refusal}
-use Rattle.index.specs.Postings.{device, shared, reach, misplaced, shadowed}
+use Rattle.index.specs.Postings.{device, reach, misplaced, shadowed}
 use Rattle.index.specs.Index.{Index, index, count, list, wrong-start, misplaced-in, redundant-in, most-terms, most-postings}
 use Rattle.index.specs.inner.Lists.{SoundList}
 use Rattle.index.proofs.Lists.{ranged, rises, reaches, shadowed-last}
@@ -63,12 +63,12 @@ unfolding any
 sound-none last l e = record { placed = rw e; single = rw e }
 
 module _ (last l : List ℕ) (h : SoundList last l) where
-  -- the newest posting, where it is shared, is for a device of the plant
-  pub newest-entry : (q : ℕ) → q ≡ entry l (length l) → shared q ≡ true → IsEntry last (device q)
-  newest-entry q e t =
+  -- the newest posting is for a device of the plant
+  pub newest-entry : (q : ℕ) → q ≡ entry l (length l) → (q ≡ 0 → ⊥) → IsEntry last (device q)
+  newest-entry q e n =
       by-order 0 (length l)
       (λ v. let g = ranged (length last) device l (h .placed) (length l) v (omega arith) in rw e (record { first = g .0; last = g .1 }))
-      (λ v. let z : q ≡ 0 = e ∙ empty-entry l (length l) (omega arith) in absurd (true≢false (sym t ∙ rw z)))
+      (λ v. absurd (n (e ∙ empty-entry l (length l) (omega arith))))
 
   -- only the newest posting can have a later device in its branch
   pub shadowed-newest : (d : ℕ) → 1 ≤ d → device (entry l (length l)) < d → shadowed last l d ≡ leb d (reach last (entry l (length l)))

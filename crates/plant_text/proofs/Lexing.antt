@@ -1,12 +1,15 @@
 -- The common lines: what the code has found of their bytes decides their form.
 use Prim.Native.Nat.{ℕ, _+_, _-_, _*_, _<_, _≤_}
 use mathlib.Core.Path.{_≡_, refl, sym, ap, _∙_}
-use mathlib.Core.Bool.{Bool, true, false, not}
+use mathlib.Core.Bool.{Bool, true, false, cond, not}
 use mathlib.Core.List.{List, [], _∷_, _++_}
 use native.Mathlib.Omega.{arith}
+use lib.Dec.{eqb}
 use lib.ListN.{length, getD, drop}
+use borrow.Author.Tests.{eqb-true}
 use Rattle.laws.specs.Limits.{highest-term}
 use Rattle.laws.proofs.Tests.{not-no}
+use Rattle.laws.proofs.Cases.{either}
 use Rattle.text.specs.Lines.{begins, line-at}
 use Rattle.text.specs.Decimal.{number-at}
 use Rattle.text.specs.Patterns.{bytes, fit, fit-after}
@@ -134,19 +137,30 @@ module _ {t : List ℕ} {at : ℕ} {r : Start} {b : Bool} where
       (there-begins t (at + 5) 32 [] (omega (arith, s .opens n .room)) k refl) (sym g ∙ not-no b .0 y) (q ∙ rw z)
 
   module _ (s : Started t at 5 r) (n : r .end ≡ 0 → ⊥) (g : b ≡ begins (41 ∷ 10 ∷ []) (drop (r .end) t)) (y : not b ≡ false) where
-    pub common-own : {x : Found} → r .word ≡ 544110447 → x ≡ record { form = record { kind = own-line; before = 0; number = r .value }; next = r .end + 2 } → Common t at x
+    common-own : {x : Found} → r .word ≡ 544110447 → x ≡ record { form = record { kind = own-line; before = 0; number = r .value }; next = r .end + 2 } → Common t at x
     unfolding literal begins bytes
     common-own w q =
         let z : r .end + 1 + 1 ≡ r .end + 2 = omega arith in
         found-line s n own-line 111 119 110 32 [] (41 ∷ []) (refl, refl) (omega arith, omega arith, omega arith, omega arith) form-own (omega arith) (omega arith) w refl
         (sym g ∙ not-no b .0 y) (q ∙ rw z)
 
-    pub common-all : {x : Found} → r .word ≡ 543976545 → x ≡ record { form = record { kind = all-line; before = 0; number = r .value }; next = r .end + 2 } → Common t at x
+    common-all : {x : Found} → r .word ≡ 543976545 → x ≡ record { form = record { kind = all-line; before = 0; number = r .value }; next = r .end + 2 } → Common t at x
     unfolding literal begins bytes
     common-all w q =
         let z : r .end + 1 + 1 ≡ r .end + 2 = omega arith in
         found-line s n all-line 97 108 108 32 [] (41 ∷ []) (refl, refl) (omega arith, omega arith, omega arith, omega arith) form-all (omega arith) (omega arith) w refl
         (sym g ∙ not-no b .0 y) (q ∙ rw z)
+
+  -- of either kind
+  pub common-posting : {k : ℕ} {x : Found} → Started t at 5 r → (r .end ≡ 0 → ⊥) → b ≡ begins (41 ∷ 10 ∷ []) (drop (r .end) t) → not b ≡ false
+      → k ≡ cond (eqb (r .word) 543976545) all-line (cond (eqb (r .word) 544110447) own-line 0) → (k ≡ 0 → ⊥)
+      → x ≡ record { form = record { kind = k; before = 0; number = r .value }; next = r .end + 2 } → Common t at x
+  common-posting {k} s n g y e h q =
+      either (eqb (r .word) 543976545)
+      (λ p. let z : k ≡ all-line = e ∙ rw p in common-all s n g y (eqb-true (r .word) 543976545 p) (q ∙ rw z))
+      (λ p. either (eqb (r .word) 544110447)
+      (λ o. let z : k ≡ own-line = e ∙ rw (p, o) in common-own s n g y (eqb-true (r .word) 544110447 o) (q ∙ rw z))
+      (λ o. absurd (h (e ∙ rw (p, o)))))
 
 -- a closing bracket
 module _ {t : List ℕ} {at : ℕ} {b : Bool} (g : b ≡ begins (41 ∷ 10 ∷ []) (drop at t)) where

@@ -1,10 +1,11 @@
 -- Laws of the reader of postings.
-use Prim.Native.Nat.{ℕ, _+_, _-_, _<_, _≤_}
+use Prim.Native.Nat.{ℕ, _+_, _-_, _*_, _/_, _%_, _<_, _≤_}
 use mathlib.Core.Path.{_≡_, refl, sym, ap, _∙_}
 use mathlib.Core.Bool.{Bool, true, false, not, _||_}
 use mathlib.Core.List.{List, [], _∷_, _++_}
 use native.Mathlib.Numerals.{add-one}
 use native.Mathlib.Omega.{arith}
+use borrow.Author.Tests.{lt-leb, eqb-true, eqb-false}
 use lib.Dec.{leb, ltb, eqb}
 use lib.ListN.{length, getD, take, drop, set, length-set, List·getD-eq-default}
 use lib.Seq.{slice, length-slice, length-take-le, take-length, take-suc-set, drop-append-le, getD-take, getD-drop}
@@ -13,7 +14,7 @@ use Rattle.laws.specs.Tables.{entry}
 use Rattle.laws.specs.inner.Entries.{IsEntry}
 use Rattle.laws.proofs.Rows.{pick-none}
 use Rattle.laws.proofs.Tests.{flags, not-yes, not-no}
-use Rattle.laws.proofs.Cases.{either}
+use Rattle.laws.proofs.Cases.{either, by-order}
 use Rattle.plant.specs.Plant.{size}
 use Rattle.index.specs.Postings.{device, shared, reach, shadowed}
 use Rattle.index.specs.inner.Lists.{SoundList}
@@ -73,14 +74,25 @@ module _ (r : Room) (m : State) (posts : List ℕ) (n d kind : ℕ) (e : is-post
   posting-next =
       posting-kinds (λ k. next (posts-made m posts n postings) (with-number k d) ≡ add-posting (posts-made m posts n postings) d (eqb k all-line)) kind e refl refl
 
+-- a number times a bit
+pub bit-times : (a b : ℕ) → a ≤ 1 → b ≤ 65535 → a * b ≤ 65535
+bit-times a b h l =
+    by-order 0 a (λ v. let z : a ≡ 1 = omega arith in rw z (omega arith)) (λ v. let z : a ≡ 0 = omega arith in rw z (omega arith))
+
+-- what the code reads of the table, where there is a posting
+pub reach-none : (last : List ℕ) (q : ℕ) → ((q ≡ 0 → ⊥) → IsEntry last (device q)) → q / 2 ≡ 0 → 0 ≡ (q % 2) * entry last (device q)
+reach-none last q h e =
+    by-order 0 q (λ v. let i = h (λ z. omega arith) in absurd (omega (arith, i .first)))
+    (λ v. let z : q ≡ 0 = omega arith in rw z (omega arith))
+
 module _ (r : Room) (last posts : List ℕ) (count begin n : ℕ) {q : ℕ} (hc : count ≤ length last) (hb : begin ≤ n) (hn : n ≤ r .postings) (hp : r .postings ≤ length posts)
     (sound : SoundList (take count last) (slice begin n posts)) (eq : q ≡ entry (slice begin n posts) (n - begin)) where
   newest : q ≡ entry (slice begin n posts) (length (slice begin n posts))
   newest = rw (length-slice begin n posts (omega arith)) eq
 
-  pub newest-in-plant : shared q ≡ true → IsEntry last (device q)
-  newest-in-plant t =
-      let e = newest-entry (take count last) (slice begin n posts) sound q newest t in
+  pub newest-in-plant : (q ≡ 0 → ⊥) → IsEntry last (device q)
+  newest-in-plant z =
+      let e = newest-entry (take count last) (slice begin n posts) sound q newest z in
       record { first = e .first; last = omega (arith, e .last, length-take-le count last hc) }
 
   current-is : (m : State) → Before last count begin m → current (posts-made m posts n postings) ≡ slice begin n posts
@@ -88,18 +100,24 @@ module _ (r : Room) (last posts : List ℕ) (count begin n : ℕ) {q : ℕ} (hc 
       let z : length (m .index .starts) ≤ length (m .index .terms) = omega (arith, b .even) in
       rw (b .begun, List·getD-eq-default (m .index .starts) (length (take n posts)) {n = length (m .index .terms)} z, take-length (take n posts))
 
-  module _ (d : ℕ) {far x : ℕ} (ef : far ≡ reach last q)
+  module _ (d : ℕ) {far x : ℕ} (ef : far ≡ (q % 2) * entry last (device q))
       (ex : x ≡ pick (eqb d 0 || ltb count d) 22 (pick (leb (r .postings) n) 27 (pick (leb d (device q)) 28 (pick (leb d far) 29 0)))) where
-    far-is : far ≡ reach (take count last) q
-    far-is = ef ∙ either (shared q)
-        (λ t. let e = newest-entry (take count last) (slice begin n posts) sound q newest t in
+    -- past its own device a posting reaches as far as its branch, if it is shared
+    far-is : 1 ≤ d → device q < d → leb d (reach (take count last) q) ≡ leb d far
+    far-is a u =
+        either (shared q)
+        (λ t. let k : q % 2 ≡ 1 = eqb-true (q % 2) 1 t in
+        let e = newest-entry (take count last) (slice begin n posts) sound q newest (λ z. omega arith) in
         let i : device q - 1 < count = omega (arith, e .first, e .last, length-take-le count last hc) in
-        rw (t, getD-take count last (device q - 1) 0 i))
-        (λ t. rw t)
+        let f : far ≡ entry last (device q) = ef ∙ rw k (omega arith) in
+        rw (t, getD-take count last (device q - 1) 0 i, f))
+        (λ t. let k : q % 2 ≡ 0 = omega (arith, eqb-false (q % 2) 1 t) in
+        let f : far ≡ 0 = ef ∙ rw k (omega arith) in
+        rw (t, lt-leb d (device q) u, f, lt-leb d 0 a))
 
     shadow-is : 1 ≤ d → device q < d → shadowed (take count last) (slice begin n posts) d ≡ leb d far
     shadow-is a u =
-        shadowed-newest (take count last) (slice begin n posts) sound d a (rw (← newest) u) ∙ rw (← newest, ← far-is)
+        shadowed-newest (take count last) (slice begin n posts) sound d a (rw (← newest) u) ∙ rw (← newest) (far-is a u)
 
     pub post-fits : x ≡ 0 → (1 ≤ d) × (d ≤ count) × (n < r .postings) × (device q < d) × (far < d)
     post-fits z =

@@ -1,8 +1,11 @@
 // The lines that most of a plant text is made of, found by their bytes and without the table. Where such a line is not there, its next line is said
 // to begin at 0.
 ghost use mathlib.Core.Path.{_≡_};
+ghost use mathlib.Core.Bool.{cond};
 ghost use Prim.Native.Nat.{_+_, _≤_};
+ghost use lib.Dec.{eqb};
 ghost use lib.ListN.{length};
+ghost use Rattle.plant_text.specs.Form.{«own-line», «all-line»};
 ghost use Rattle.plant_text.specs.inner.Common.{Common, Closes, Four, Started};
 use crate::lines::ALL;
 use crate::lines::DEVICE;
@@ -147,7 +150,21 @@ pub fn term_line(text: &[u8], at: usize) -> Found
     line_of(TERM, start.value, end + 1)
 }
 
-// The line of a posting. Its word is looked at last: which of the two it is follows no rule.
+fn own_kind(word: u32) -> u32
+    ensures { λ r. ⌜ r ≡ cond (eqb word 544_110_447) «own-line» 0 ⌝ }
+{
+    if word == OWN_WORD { OWN } else { 0 }
+}
+
+// The kind of a posting's line, by its word, or 0. Which it is follows no rule, so no branch hangs on it.
+fn posting_kind(word: u32) -> u32
+    ensures { λ r. ⌜ r ≡ cond (eqb word 543_976_545) «all-line» (cond (eqb word 544_110_447) «own-line» 0) ⌝ }
+{
+    let own = own_kind(word);
+    if word == ALL_WORD { ALL } else { own }
+}
+
+// The line of a posting. Its word is looked at last.
 pub fn posting_line(text: &[u8], at: usize) -> Found
     requires { ⌜ at ≤ length (now text) ⌝ }
     ensures { λ r. ⌜ Common (now (text .entry)) at r ⌝ }
@@ -160,13 +177,11 @@ pub fn posting_line(text: &[u8], at: usize) -> Found
     if !text::is_at(text, end, b")\n") {
         return nothing();
     }
-    if start.word == OWN_WORD {
-        return line_of(OWN, start.value, end + 2);
+    let kind = posting_kind(start.word);
+    if kind == 0 {
+        return nothing();
     }
-    if start.word == ALL_WORD {
-        return line_of(ALL, start.value, end + 2);
-    }
-    nothing()
+    line_of(kind, start.value, end + 2)
 }
 
 // Where the next line begins, if the line at `at` is a closing bracket.

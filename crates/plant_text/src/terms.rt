@@ -1,7 +1,7 @@
 // The readers of terms and postings.
 ghost use mathlib.Core.Path.{_≡_};
 ghost use mathlib.Core.Bool.{true, _||_};
-ghost use Prim.Native.Nat.{_-_, _/_, _≤_};
+ghost use Prim.Native.Nat.{_-_, _*_, _/_, _%_, _≤_};
 ghost use lib.Dec.{leb, ltb, eqb};
 ghost use lib.ListN.{length, take};
 ghost use lib.Seq.{slice};
@@ -9,7 +9,7 @@ ghost use Rattle.laws.specs.Limits.{«most-devices», «highest-term»};
 ghost use Rattle.laws.specs.Rows.{pick};
 ghost use Rattle.laws.specs.Tables.{entry};
 ghost use Rattle.laws.specs.inner.Entries.{IsEntry};
-ghost use Rattle.index.specs.Postings.{device, shared, reach};
+ghost use Rattle.index.specs.Postings.{device};
 ghost use Rattle.index.specs.Index.{index, «most-postings»};
 ghost use Rattle.index.specs.inner.Lists.{SoundList};
 ghost use Rattle.plant_text.specs.Form.{«is-posting»};
@@ -41,19 +41,19 @@ fn newest_posting(postings: &[u32], begin: usize, n: usize) -> u32
     if begin < n { postings[n - 1] } else { 0 }
 }
 
-// The last device that posting q carries its term to.
+// The last device that a shared posting q carries its term to; 0 for another, or for none. Whether it is shared is a bit that a processor cannot
+// guess, so the table is read for both, and the bit multiplied.
 fn reach_of(last: &[u16], q: u32) -> u32
-    requires { ⌜ (shared q ≡ true → IsEntry (now last) (device q)) ⌝ }
-    ensures { λ r. ⌜ r ≡ reach (now (last .entry)) q ⌝ }
+    requires { ⌜ ((q ≡ 0 → ⊥) → IsEntry (now last) (device q)) ⌝ }
+    ensures { λ r. ⌜ r ≡ (q % 2) * entry (now (last .entry)) (device q) ⌝ }
 {
     let d = q / 2;
-    if q % 2 == 1 {
-        let i = (d - 1) as usize;
-        let end = last[i];
-        end as u32
-    } else {
-        d
+    if d == 0 {
+        return 0;
     }
+    let i = (d - 1) as usize;
+    let end = last[i] as u32;
+    (q % 2) * end
 }
 
 // The posting for device d.
@@ -65,7 +65,7 @@ fn posting_for(d: u64, shared: bool) -> u32
     if shared { twice + 1 } else { twice }
 }
 
-// Why a posting for device d is not added to a list whose newest posting is for device `newest` and reaches device `far`, after n of the `most`
+// Why a posting for device d is not added to a list whose newest posting is for device `newest` and reaches device `far` in its branch, after n of the `most`
 // that there is room for, in a plant of `count` devices; or 0.
 fn posting_refusal(d: u64, count: usize, most: usize, n: usize, newest: u32, far: u32) -> u32
     ensures { λ r. ⌜ r ≡ pick (eqb d 0 || ltb count d) 22 (pick (leb most n) 27 (pick (leb d newest) 28 (pick (leb d far) 29 0))) ⌝ }

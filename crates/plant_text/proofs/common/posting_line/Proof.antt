@@ -1,5 +1,5 @@
 -- `plant_text::common::posting_line` meets its contract.
-use Rattle.plant_text.proofs.Lexing.{common-none, common-own, common-all}
+use Rattle.plant_text.proofs.Lexing.{common-none, common-posting}
 use borrow.Author.Needs.{needs}
 use Rattle.plant_text.proofs.common.posting_line.Statement.{statement}
 use Rattle.plant_text.proofs.common.posting_line.Tie as tie
@@ -15,11 +15,9 @@ posting-line-spec =
     (λ c κs. search needs)
     (λ c κs. search needs)
     (λ c. search (common-none, needs))
+    (λ c κs. search needs)
+    (λ c κs. search needs)
+    (λ c. search (common-none, needs))
     (λ c. search needs)
     (λ c κs. search needs)
-    (λ c. search (common-own, needs))
-    (λ c. search needs)
-    (λ c κs. search needs)
-    (λ c. search (common-all, needs))
-    (λ c κs. search needs)
-    (λ c. search (common-none, needs)))
+    (λ c. search (common-posting, needs)))
