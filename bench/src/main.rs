@@ -196,7 +196,7 @@ fn main() {
         ["count", "common"] => return count(true),
         ["count", "any"] => return count(false),
         ["count", "read"] => return reading::count(MISSION),
-        ["read"] => return print!("{}", report::reading(MISSION, &reading::measure(MISSION, 60))),
+        ["read"] => return print!("{}", report::reading(MISSION, &reading::measure(MISSION, 60), reading::printing())),
         ["quick"] => {
             (Effort { queries: 10, passes: 4, whole: 25, steps: 25 }, Effort { queries: 4, passes: 3, whole: 1, steps: 30 }, 20)
         }
@@ -208,7 +208,7 @@ fn main() {
     };
     let measured = [measure("the mission's size", MISSION, mission), measure("the limits", LIMITS, limits)];
     let reading = reading::measure(MISSION, readings);
-    let text = report::whole(&measured, &reading, &growth(), &skips());
+    let text = report::whole(&measured, &reading, reading::printing(), &growth(), &skips());
     print!("{text}");
     if words.is_empty() {
         std::fs::write(concat!(env!("CARGO_MANIFEST_DIR"), "/../docs/BENCHMARK.md"), &text).unwrap();

@@ -10,6 +10,9 @@ use std::hint::black_box;
 /// Plants, each with two queries of each kind. They are read in turn: a processor learns a text that is read again at once.
 const PLANTS: u64 = 8;
 
+/// Rounds of printing: its time is a difference of two.
+const PRINTINGS: usize = 3_000;
+
 /// Seconds of one call in each way.
 #[derive(Clone, Copy)]
 pub struct Pair {
@@ -191,6 +194,22 @@ pub fn count(size: Size) {
         black_box(ffi::read_plant(black_box(&text), &mut t));
         black_box(plant_reader::read_plant(black_box(&text), &mut t));
     }
+}
+
+/// Listing and printing as many devices as there is room for: an ask for all of them less one for none, over a plant of devices alone.
+pub fn printing() -> Pair {
+    let plant = [b"(plant\n".as_slice(), &b"(dev 120\n)\n".repeat(1_024), b")\n"].concat();
+    let asks: [&[u8]; 2] = [b"(ask\n)\n", b"(ask\n(from 1025)\n)\n"];
+    asks.iter().for_each(|ask| responds_agree(&plant, ask));
+    let (mut times, mut out) = ([[Least::NONE; 2]; 2], [0; 16384]);
+    for _ in 0..PRINTINGS {
+        for (ask, [proved, plain]) in asks.iter().zip(&mut times) {
+            proved.of(|| ffi::respond_into(black_box(&plant), ask, &mut out));
+            plain.of(|| respond(black_box(&plant), ask, &mut out, plain::search));
+        }
+    }
+    let [all, none] = times;
+    Pair { proved: all[0].0 - none[0].0, plain: all[1].0 - none[1].0 }
 }
 
 /// The mean over several plants of this size; each query comes round so often.

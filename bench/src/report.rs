@@ -164,8 +164,8 @@ fn sharing(m: &Measured) -> String {
     out
 }
 
-/// Reading and the whole job, proved against plain, and beside a pass over the bytes.
-pub fn reading(of: Size, r: &Reading) -> String {
+/// Reading, the whole job and printing, proved against plain, and beside a pass over the bytes.
+pub fn reading(of: Size, r: &Reading, printing: Pair) -> String {
     let mut out = String::from("\n## Reading, and the whole job\n\n");
     let (plant, query) = (commas(r.plant_bytes), r.query_bytes);
     writeln!(out, "At the mission's size: {}. A plant text has {plant} bytes, a query text {query}.", size(of)).unwrap();
@@ -175,6 +175,7 @@ pub fn reading(of: Size, r: &Reading) -> String {
         ("reading a query", r.query),
         ("the whole job: `respond`", r.respond),
         ("the whole job, plain without its check", Pair { plain: r.unchecked, ..r.respond }),
+        ("listing and printing 1,024 devices", printing),
     ] {
         writeln!(out, "| {name} | {} | {} | **{:.2}** |", micro(plain), micro(proved), proved / plain).unwrap();
     }
@@ -216,11 +217,11 @@ fn moves_skip(skips: &[Skip]) -> String {
     out
 }
 
-pub fn whole(measured: &[Measured], read: &Reading, growth: &[Growth], skips: &[Skip]) -> String {
+pub fn whole(measured: &[Measured], read: &Reading, printing: Pair, growth: &[Growth], skips: &[Skip]) -> String {
     let all = |each: fn(&Measured) -> String| measured.iter().map(each).collect::<String>();
     let mut out = String::from(include_str!("../before.md"));
     out += &all(figures);
-    out += &reading(MISSION, read);
+    out += &reading(MISSION, read, printing);
     out += &tables_grow(growth);
     out += &moves_skip(skips);
     out += "\n## Sharing: the figures of document 000\n\n";

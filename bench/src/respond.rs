@@ -26,17 +26,14 @@ impl Out<'_> {
         self
     }
 
-    fn number(self, mut n: u32) -> Self {
-        let mut digits = [0; 10];
-        let mut from = digits.len();
-        loop {
-            from -= 1;
-            digits[from] = b'0' + (n % 10) as u8;
+    fn number(mut self, mut n: u32) -> Self {
+        let end = self.at + n.checked_ilog10().unwrap_or(0) as usize + 1;
+        for digit in self.bytes[self.at..end].iter_mut().rev() {
+            *digit = b'0' + (n % 10) as u8;
             n /= 10;
-            if n == 0 {
-                return self.word(&digits[from..]);
-            }
         }
+        self.at = end;
+        self
     }
 
     /// A line of a word, a number and a closing bracket.

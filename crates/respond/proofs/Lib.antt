@@ -1,6 +1,4 @@
 -- Laws of the output: what is written after what, and how long it is.
-pub mod Writing
-pub mod Decimals
 pub mod Listing
 pub mod Tables
 pub mod Parts

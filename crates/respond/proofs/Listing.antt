@@ -1,4 +1,4 @@
--- The lines of a listing, and the room that they take.
+-- The lines of a listing, and how long lines and answers are.
 use Prim.Native.Nat.{ℕ, suc, _+_, _*_, _^_, _≤_, _<_}
 use mathlib.Core.Path.{_≡_, refl, sym}
 use mathlib.Core.List.{List, [], _∷_, _++_, append-assoc, append-nil}
@@ -6,20 +6,18 @@ use native.Mathlib.Omega.{arith}
 use native.Mathlib.Numerals.{add-one}
 use lib.ListN.{length, take, getD, length-append}
 use lib.Seq.{take-suc, take-all}
-use Rattle.respond.specs.Lines.{word-device, numbered, device-lines}
-use Rattle.respond.specs.inner.Puts.{HasRoom, Puts}
-use Rattle.respond.proofs.Writing.{_then_}
-use Rattle.respond.proofs.Decimals.{decimal-short}
+use Rattle.text.specs.inner.Puts.{Puts}
+use Rattle.text.proofs.Numerals.{numeral-short}
+use Rattle.text.specs.Writing.{Writes}
+use Rattle.text.proofs.Writing.{puts, puts-none, _then_}
+use Rattle.respond.specs.Lines.{word-answer, word-device, word-place, word-moves, ending, numbered, numbered₂, device-lines, answer-text}
 
--- the bytes of a line whose number is below a power of ten
-numbered-short : (w : List ℕ) (k n : ℕ) → n < 10 ^ suc k → length (numbered w n) ≤ length w + suc k + 2
-numbered-short w k n h = simp length-append (omega (arith, decimal-short k n h))
+-- the bytes of a line whose number is below a power of ten, and of one with two numbers
+pub numbered-short : (w : List ℕ) (k n : ℕ) → n < 10 ^ suc k → length (numbered w n) ≤ length w + suc k + 2
+numbered-short w k n h = simp length-append (omega (arith, numeral-short k n h))
 
-pub numbered-room : (w : List ℕ) (k : ℕ) {at n : ℕ} → n < 10 ^ suc k → at + (length w + suc k + 2) ≤ 16384 → HasRoom at (numbered w n)
-numbered-room w k {at} {n} h r = record { room = omega (arith, numbered-short w k n h) }
-
-pub numbered-end : (w : List ℕ) (k : ℕ) {l l′ : List ℕ} {at n next : ℕ} → n < 10 ^ suc k → Puts l at (numbered w n) l′ next → next ≤ at + (length w + suc k + 2)
-numbered-end w k {n} h p = omega (arith, p .moved, numbered-short w k n h)
+pub numbered₂-short : (w : List ℕ) (k n m : ℕ) → n < 10 ^ suc k → m < 10 ^ suc k → length (numbered₂ w n m) ≤ length w + 2 * suc k + 3
+numbered₂-short w k n m h g = simp length-append (omega (arith, numeral-short k n h, numeral-short k m g))
 
 device-lines-append : (a b : List ℕ) → device-lines (a ++ b) ≡ device-lines a ++ device-lines b
 unfolding device-lines
@@ -30,27 +28,45 @@ device-line : (d : ℕ) → device-lines (d ∷ []) ≡ numbered word-device d
 unfolding device-lines
 device-line d = append-nil (numbered word-device d)
 
+-- the lines of devices of five digits at most
+pub devices-short : (listing : List ℕ) → ((i : ℕ) → getD listing i 0 < 65536) → length (device-lines listing) ≤ 15 * length listing
+unfolding device-lines
+devices-short [] h = omega arith
+devices-short (d ∷ ds) h =
+    let f = numbered-short word-device 4 d (omega (arith, h 0)) in
+    let g = devices-short ds (λ i. h (suc i)) in
+    rw (length-append (numbered word-device d)) (omega arith)
+
 -- a loop that writes a listing has written its first i devices
 pub record DevicesPut (l : List ℕ) (at : ℕ) (listing l′ : List ℕ) (next i : ℕ) : Type 0 where
   pub within : i ≤ length listing
   pub put : Puts l at (device-lines (take i listing)) l′ next
-  pub few : next ≤ at + 15 * i
 
 module _ {l : List ℕ} {at : ℕ} {listing : List ℕ} where
-  pub devices-none : at + 15 * length listing ≤ 16384 → DevicesPut l at listing l at 0
+  pub devices-none : DevicesPut l at listing l at 0
   unfolding device-lines
-  devices-none r = record { within = omega arith; put = record { stored = refl; moved = omega arith; within = omega arith }; few = omega arith }
+  devices-none = record { within = omega arith; put = puts-none }
 
-  pub devices-more : {l′ l″ : List ℕ} {next after i : ℕ} → DevicesPut l at listing l′ next i → i < length listing →
-      Puts l′ next (numbered word-device (getD listing i 0)) l″ after × (after ≤ next + 15) → DevicesPut l at listing l″ after (i + 1)
-  devices-more {l′} {l″} {next} {after} {i} p h q = record {
-    within = omega arith;
-    put = rw (add-one, take-suc listing i 0, device-lines-append, device-line) (p .put then q .0);
-    few = omega (arith, p .few, q .1);
-  }
+  module _ {l′ : List ℕ} {next i : ℕ} (p : DevicesPut l at listing l′ next i) where
+    pub devices-more : {l″ : List ℕ} {after : ℕ} → i < length listing → Puts l′ next (numbered word-device (getD listing i 0)) l″ after →
+        DevicesPut l at listing l″ after (i + 1)
+    devices-more h q = record {
+      within = omega arith;
+      put = rw (add-one, take-suc listing i 0, device-lines-append, device-line) (p .put then q);
+    }
 
-  pub devices-put : {l′ : List ℕ} {next i : ℕ} → DevicesPut l at listing l′ next i → length listing ≤ i → Puts l at (device-lines listing) l′ next
-  devices-put {i} p h = rw (take-all i listing h) at (p .put)
+    pub devices-put : length listing ≤ i → Puts l at (device-lines listing) l′ next
+    devices-put h = rw (take-all i listing h) at (p .put)
 
-  pub devices-end : {l′ : List ℕ} {next i : ℕ} → DevicesPut l at listing l′ next i → length listing ≤ i → next ≤ at + 15 * length listing
-  devices-end p h = omega (arith, p .within, p .few)
+-- the parts of an answer, one after another, and how long it is with numbers of ten digits
+module _ (listing : List ℕ) (position moves : ℕ) where
+  pub answer-put : {l l₁ l₂ l₃ l₄ l₅ : List ℕ} {i₁ i₂ i₃ i₄ count : ℕ} → Writes l 0 word-answer l₁ i₁ → Puts l₁ i₁ (device-lines listing) l₂ i₂ →
+      Puts l₂ i₂ (numbered word-place position) l₃ i₃ → Puts l₃ i₃ (numbered word-moves moves) l₄ i₄ → Writes l₄ i₄ ending l₅ count →
+      Puts l 0 (answer-text listing position moves) l₅ (i₄ + count)
+  unfolding answer-text
+  answer-put {i₁} a b c d e = let z : 0 + i₁ ≡ i₁ = omega arith in (rw z at (puts a)) then b then c then d then puts e
+
+  pub answer-short : length (device-lines listing) ≤ 15 * length listing → position < 10 ^ 10 → moves < 10 ^ 10 →
+      length (answer-text listing position moves) ≤ 48 + 15 * length listing
+  unfolding answer-text
+  answer-short h p m = simp length-append (omega (arith, numeral-short 9 position p, numeral-short 9 moves m))

@@ -1,10 +1,10 @@
--- What each part of the answer comes to, and that it fits the buffer.
-use Prim.Native.Nat.{ℕ, zero, suc, _+_, _^_, _≤_, _<_}
+-- What each part of the answer comes to, and that the whole fits the buffer.
+use Prim.Native.Nat.{ℕ, zero, suc, _+_, _≤_}
 use mathlib.Core.Path.{_≡_, refl, ap, _∙_}
 use mathlib.Core.List.{List}
 use native.Mathlib.Omega.{arith}
 use lib.ListN.{length, take, length-append, length-take}
-use lib.Seq.{length-sets, sets-eq, take-append-seam}
+use lib.Seq.{take-append-seam}
 use Rattle.plant.specs.Plant.{Plant}
 use Rattle.index.specs.Index.{Index}
 use Rattle.steps.specs.Steps.{End}
@@ -16,14 +16,8 @@ use Rattle.plant_text.specs.PlantText as plant-texts
 use Rattle.plant_text.specs.PlantText.{State}
 use Rattle.query_text.specs.QueryText as query-texts
 use Rattle.respond.specs.Lines.{word-plant, word-ask, word-query, numbered, numbered₂, answer-text}
-use Rattle.respond.specs.inner.Puts.{HasRoom, Puts}
+use Rattle.respond.specs.inner.Prints.{Prints}
 use Rattle.respond.specs.Respond.{program-room, of-run, of-search, of-query, of-query-text, respond, Responds}
-use Rattle.respond.proofs.Decimals.{decimal-short}
-
--- a line of two numbers of ten digits each
-pub numbered₂-room : (w : List ℕ) {n m : ℕ} → n < 10 ^ 10 → m < 10 ^ 10 → length w + 23 ≤ 16384 → HasRoom 0 (numbered₂ w n m)
-numbered₂-room w {n} {m} h g r =
-    record { room = simp (length-append) (omega (arith, decimal-short 9 n h, decimal-short 9 m g)) }
 
 -- the search refuses the query, or lists
 pub run-refused : (a : Answer) (n : ℕ) (e : End) → a ≡ answer-of n e → (a .refusal ≡ 0 → ⊥) → numbered word-query (a .refusal) ≡ of-run n e
@@ -58,15 +52,20 @@ module _ (text query : List ℕ) where
   unfolding respond
   plant-read P I m e p i = rw (e, p, i)
 
--- the whole, from what is put at the front of the buffer
-pub responds : {plant query out out′ bytes : List ℕ} {n : ℕ} → length out ≡ 16384 → Puts out 0 bytes out′ n → bytes ≡ respond plant query →
+-- the whole, from what is printed
+pub responds : {plant query out out′ bytes : List ℕ} {n : ℕ} → length out ≡ 16384 → Prints out bytes out′ n → bytes ≡ respond plant query →
     Responds plant query out out′ n
 responds {out} {out′} {bytes} {n} l p e =
-    let fits : 0 + length bytes ≤ length out = omega (arith, p .moved, p .within, l) in
-    let long : length out′ ≡ length out = ap length (p .stored) ∙ length-sets out 0 bytes in
+    let room : 0 + length bytes ≤ length out = omega (arith, p .few, l) in
+    let moved = p .puts .moved room in
+    let z : 0 + length bytes ≡ length bytes = omega arith in
     record {
-      bytes = rw (← e) (p .stored ∙ sets-eq bytes out 0 fits ∙ (let z : 0 + length bytes ≡ length bytes = omega arith in rw z));
-      counted = rw (← e) (p .moved ∙ omega arith);
-      within = omega (arith, p .within);
-      taken = simp length-take (omega (arith, p .within));
+      bytes = rw (← e) (p .puts .stored room ∙ rw z);
+      counted = rw (← e) (moved ∙ z);
+      within = omega (arith, p .puts .same);
+      taken = simp length-take (omega (arith, p .puts .same));
     }
+
+-- the same text, said another way
+pub prints-as : {out out′ a b : List ℕ} {n : ℕ} → Prints out a out′ n → a ≡ b → Prints out b out′ n
+prints-as p e = rw e at p

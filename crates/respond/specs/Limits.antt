@@ -10,7 +10,3 @@ term-room = 256
 
 abbrev pub posting-room : ℕ
 posting-room = 4_096
-
--- the bytes of the output buffer, which the longest answer fits
-abbrev pub buffer-room : ℕ
-buffer-room = 16_384

@@ -1,7 +1,7 @@
 -- The lines that are printed, as bytes.
 use Prim.Native.Nat.{ℕ}
 use mathlib.Core.List.{List, [], _∷_, _++_}
-use Rattle.respond.specs.Decimal.{decimal}
+use Rattle.text.specs.Decimal.{numeral}
 
 -- `(answer` and a line feed
 abbrev pub word-answer : List ℕ
@@ -37,11 +37,11 @@ word-query = 40 ∷ 114 ∷ 101 ∷ 102 ∷ 117 ∷ 115 ∷ 101 ∷ 100 ∷ 32 �
 
 -- a line of a word and a number: `(place 7)`
 abbrev pub numbered : List ℕ → ℕ → List ℕ
-numbered word n = word ++ (decimal n ++ ending)
+numbered word n = word ++ (numeral n ++ ending)
 
 -- a line of a word and two numbers: `(refused plant 22 5)`
 abbrev pub numbered₂ : List ℕ → ℕ → ℕ → List ℕ
-numbered₂ word n m = word ++ (decimal n ++ (32 ∷ (decimal m ++ ending)))
+numbered₂ word n m = word ++ (numeral n ++ (32 ∷ (numeral m ++ ending)))
 
 -- "device lines are the listing"
 unfoldable pub device-lines : List ℕ → List ℕ

@@ -6,13 +6,10 @@ use query::Query;
 use write::put_answer;
 use write::put_numbered;
 use write::put_numbered_twice;
-ghost use mathlib.Core.Path.{_≡_};
-ghost use lib.ListN.{length};
 ghost use Rattle.plant.specs.Plant.{plant};
 ghost use Rattle.index.specs.Index.{index};
 ghost use Rattle.query_text.specs.QueryText as «query-texts»;
-ghost use Rattle.respond.specs.inner.Puts.{Puts};
-ghost use Rattle.respond.specs.Limits.{«buffer-room»};
+ghost use Rattle.respond.specs.inner.Prints.{Prints};
 ghost use Rattle.respond.specs.Respond.{«of-search», «of-query-text», Responds};
 
 // Writes the answer to a query text over a plant text, or why one of them is refused, at the front of the buffer. Returns how many bytes.
@@ -57,15 +54,14 @@ fn respond_query(
     starts: &[u32],
     postings: &[u32],
     query: &[u8],
-    out: &mut [u8; 16384],
+    out: &mut [u8],
 ) -> usize
-    ensures puts { λ r. ⌜ Puts (now (out .entry)) 0
+    ensures { λ r. ⌜ Prints (now (out .entry))
         («of-query-text»
         (plant (now (last .entry)) (now (root .entry)) (now (level .entry)))
         (index (now (terms .entry)) (now (starts .entry)) (now (postings .entry)))
         («query-texts».read-query (now (query .entry))))
         (now (out .exit)) r ⌝ }
-    ensures whole { λ _. ⌜ length (now (out .entry)) ≡ «buffer-room» ⌝ }
 {
     let asked = query_text::read(query);
     let refusal = asked.refusal;
@@ -85,15 +81,14 @@ fn respond_search(
     starts: &[u32],
     postings: &[u32],
     query: Query,
-    out: &mut [u8; 16384],
+    out: &mut [u8],
 ) -> usize
-    ensures puts { λ r. ⌜ Puts (now (out .entry)) 0
+    ensures { λ r. ⌜ Prints (now (out .entry))
         («of-search»
         (plant (now (last .entry)) (now (root .entry)) (now (level .entry)))
         (index (now (terms .entry)) (now (starts .entry)) (now (postings .entry)))
         query)
         (now (out .exit)) r ⌝ }
-    ensures whole { λ _. ⌜ length (now (out .entry)) ≡ «buffer-room» ⌝ }
 {
     let mut listing = [0u16; 1024];
     let a = search::search(

@@ -95,7 +95,7 @@ decimal-more : (limit a b n : ℕ) (s : List ℕ) → digit b ≡ true → n ≡
 unfolding decimal
 decimal-more limit a b n s d e = rw d (capped-decimal limit (a * 10 + (b - 48)) n s (omega arith))
 
-number-first : (b : ℕ) (s : List ℕ) → (b ≡ 48 → ⊥) → number (b ∷ s) ≡ decimal 0 (b ∷ s)
+pub number-first : (b : ℕ) (s : List ℕ) → (b ≡ 48 → ⊥) → number (b ∷ s) ≡ decimal 0 (b ∷ s)
 unfolding number
 number-first b [] e = refl
 number-first b (c ∷ cs) e = rw (ne-eqb b 48 e)

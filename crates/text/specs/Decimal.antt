@@ -1,9 +1,10 @@
--- Numbers. "Numbers are 0 or digits without a leading zero".
-use Prim.Native.Nat.{ℕ, _+_, _-_, _*_, min}
+-- Numbers, read and written. "Numbers are 0 or digits without a leading zero".
+use Prim.Native.Nat.{ℕ, zero, suc, _+_, _-_, _*_, _/_, _%_, min}
+use mathlib.Core.Path.{_≡_}
 use mathlib.Core.Bool.{Bool, cond, _&&_, not}
-use mathlib.Core.List.{List, [], _∷_}
+use mathlib.Core.List.{List, [], _∷_, _++_}
 use mathlib.Core.Option.{Option, none, some}
-use lib.Dec.{leb, eqb}
+use lib.Dec.{leb, ltb, eqb}
 use lib.ListN.{length, take, drop}
 use Rattle.laws.specs.Front.{until}
 use Rattle.text.specs.declared.NumberAt.{NumberAt}
@@ -22,6 +23,20 @@ unfoldable pub number : List ℕ → Option ℕ
 number [] = none
 number (b ∷ []) = decimal 0 (b ∷ [])
 number (b ∷ c ∷ cs) = cond (eqb b 48) none (decimal 0 (b ∷ c ∷ cs))
+
+-- the digits of n as bytes, the most significant first; at most k of them
+unfoldable pub numeral-in : ℕ → ℕ → List ℕ
+numeral-in zero n = []
+numeral-in (suc k) n = cond (ltb n 10) ((48 + n) ∷ []) (numeral-in k (n / 10) ++ ((48 + n % 10) ∷ []))
+
+-- a number as it is written: it has no more digits than it has units, and one for 0
+unfoldable pub numeral : ℕ → List ℕ
+numeral n = numeral-in (n + 1) n
+
+-- the form of a number: bytes that read as it, and no other bytes do
+pub record FormOf (n : ℕ) (bytes : List ℕ) : Type 0 where
+  pub reads : number bytes ≡ some n
+  pub alone : (l : List ℕ) → number l ≡ some n → l ≡ bytes
 
 -- the digits at the front of a line, and what stands after them
 abbrev pub digits : List ℕ → ℕ

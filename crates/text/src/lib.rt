@@ -1,4 +1,8 @@
-// Lines, numbers and forms of a text: what the readers of texts share.
+// Lines, numbers and forms of a text, read, and words and numbers, written: what all texts share.
+mod put;
+
+pub use put::put_number;
+pub use put::put_word;
 ghost use mathlib.Core.Path.{_≡_};
 ghost use mathlib.Core.Bool.{cond};
 ghost use mathlib.Core.List.{[], _∷_};

@@ -10,7 +10,8 @@ use Rattle.plant_text.specs.PlantText.{read-plant}
 use Rattle.respond.specs.Lines.{word-plant}
 use Rattle.respond.specs.Respond.{program-room}
 use Rattle.respond.proofs.Tables.{Tables, program-within, tables, is-refused}
-use Rattle.respond.proofs.Parts.{numbered₂-room, plant-refused, plant-read, responds}
+use Rattle.respond.proofs.Listing.{numbered₂-short}
+use Rattle.respond.proofs.Parts.{plant-refused, plant-read, responds}
 
 -- the numbers that the reader answers, and the tables that it leaves
 abbrev Numbers : tie.After-known-told2 → Type 0
@@ -32,7 +33,8 @@ returns c =
     let r = c .before .before .before .before .before .before .before .before .before .before .before .before .read in
     let m = c .before .before .before .before .n .given in
     let a = c .before .before .before .before .before .before .before .before .before .before .before .before .before .before .before .before .before .before .before .before .before .args in
-    responds (c .put-numbered-twice .ensures .1) (c .put-numbered-twice .ensures .0)
+    responds (search needs)
+    (record { puts = c .put-numbered-twice .ensures; few = omega (arith, numbered₂-short word-plant 9 (m .0 .0) (m .0 .1 .0) (omega arith) (omega arith)) })
     (plant-refused (now (a .plant)) (now (a .query)) (m .0 .0) (m .0 .1 .0)
     (is-refused (read-plant program-room (now (a .plant))) (m .0 .0) (m .0 .1 .0) (sym (m .1) ∙ r .ensures .0)))
 
@@ -40,7 +42,7 @@ returns-2 : tie.Need-returns-2
 returns-2 c =
     let t = numbers (c .before .before .before .before .before .before .before .before) in
     let a = c .before .before .before .before .before .before .before .before .before .before .before .before .before .before .before .before .before .before .before .before .before .before .before .before .before .before .args in
-    responds (c .respond-query .ensures .1) (c .respond-query .ensures .0)
+    responds (search needs) (c .respond-query .ensures)
     (plant-read (now (a .plant)) (now (a .query)) _ _ (t .state) (t .means) (t .plant-is) (t .index-is))
 
 pub respond-spec : {M : Type 1} → statement M
@@ -56,7 +58,7 @@ respond-spec =
     (λ c κs. search needs)
     (λ c. search needs)
     (λ c. search needs)
-    (λ c κs. numbered₂-room word-plant (omega arith) (omega arith) (omega arith))
+    (λ c κs. search needs)
     (λ c. search needs)
     (λ c. numbers c .in-last)
     (λ c. simp length-take (omega (arith, numbers (c .before) .in-last)))

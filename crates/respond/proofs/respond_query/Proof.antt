@@ -7,8 +7,8 @@ use denote.Ref.{now}
 use Rattle.plant.specs.Plant.{Plant, plant}
 use Rattle.index.specs.Index.{Index, index}
 use Rattle.respond.specs.Lines.{word-ask}
-use Rattle.respond.proofs.Writing.{puts-as}
-use Rattle.respond.proofs.Parts.{numbered₂-room, query-refused, query-read}
+use Rattle.respond.proofs.Listing.{numbered₂-short}
+use Rattle.respond.proofs.Parts.{prints-as, query-refused, query-read}
 
 abbrev P : tie.Start → Plant
 P z = plant (now (z .args .last)) (now (z .args .root)) (now (z .args .level))
@@ -18,23 +18,22 @@ I z = index (now (z .args .terms)) (now (z .args .starts)) (now (z .args .postin
 
 returns : tie.Need-returns
 returns c =
-    let s = c .before .before .before .before in
-    let z = c .before .before .before .before .before .before .before .before .before .before .before .before in
-    let r = s .read .result in (
-      rw (← s .read .ensures)
-          (puts-as (c .put-numbered-twice .ensures .0) (query-refused (P z) (I z) (r .refusal) (r .line) (r .query) (c .before .before .before .if1 .taken))),
-      c .put-numbered-twice .ensures .1,
-    )
+    let p = c .before .before in
+    let s = p .before .before .before .before in
+    let z = s .before .before .before .before .before .before .before .before .before in
+    let r = s .read .result in
+    rw (← s .read .ensures)
+    (prints-as (record { puts = p .put-numbered-twice .ensures; few = omega (arith, numbered₂-short word-ask 9 (r .refusal) (r .line) (omega arith) (omega arith)) })
+    (query-refused (P z) (I z) (r .refusal) (r .line) (r .query) (c .before .before .before .before .before .if1 .taken)))
 
 returns-2 : tie.Need-returns-2
 returns-2 c =
-    let s = c .before .before .before .before in
-    let z = c .before .before .before .before .before .before .before .before .before .before .before .before in
-    let r = s .read .result in (
-      rw (← s .read .ensures)
-          (puts-as (c .respond-search .ensures .0) (query-read (P z) (I z) (r .refusal) (r .line) (r .query) (c .before .before .before .if1 .left))),
-      c .respond-search .ensures .1,
-    )
+    let p = c .before .before in
+    let s = p .before .before .before .before in
+    let z = s .before .before .before .before .before .before .before .before .before in
+    let r = s .read .result in
+    rw (← s .read .ensures)
+    (prints-as (p .respond-search .ensures) (query-read (P z) (I z) (r .refusal) (r .line) (r .query) (c .before .before .before .before .before .if1 .left)))
 
 pub respond-query-spec : {M : Type 1} → statement M
 respond-query-spec =
@@ -42,7 +41,9 @@ respond-query-spec =
     (tie.spec
     (λ c κs. search needs)
     (λ c. search needs)
-    (λ c κs. numbered₂-room word-ask (omega arith) (omega arith) (omega arith))
+    (λ c κs. search needs)
+    (λ c. search needs)
     returns
     (λ c κs. search needs)
+    (λ c. search needs)
     returns-2)

@@ -10,9 +10,8 @@ use Rattle.plant.specs.Plant.{Plant, plant}
 use Rattle.index.specs.Index.{Index, index}
 use Rattle.search.specs.Answer.{search-refusal, ended}
 use Rattle.respond.specs.Lines.{word-query}
-use Rattle.respond.proofs.Writing.{puts-as}
-use Rattle.respond.proofs.Listing.{numbered-room}
-use Rattle.respond.proofs.Parts.{run-refused, run-listed, run-count}
+use Rattle.respond.proofs.Listing.{numbered-short}
+use Rattle.respond.proofs.Parts.{prints-as, run-refused, run-listed, run-count}
 
 abbrev P : tie.Start → Plant
 P z = plant (now (z .args .last)) (now (z .args .root)) (now (z .args .level))
@@ -22,30 +21,28 @@ I z = index (now (z .args .terms)) (now (z .args .starts)) (now (z .args .postin
 
 count-fits : (c : tie.After-search) → c .search .result .count ≤ length (c .search .last .1 .1 .1 .1 .1 .1 .1 .0)
 count-fits c =
-    let z = c .before .before .before .before .before .before .before .before in
+    let z = c .before .before .before .before .before .before .before .before .before in
     let q = z .args .query in
     run-count (c .search .result) (search-refusal (P z) (I z) q 1024) (ended (P z) (I z) q (q .budget)) _ _ (c .search .ensures .answers) (c .search .ensures .lists)
 
 returns : tie.Need-returns
 returns c =
-    let s = c .before .before .before .before .before in
-    let z = c .before .before .before .before .before .before .before .before .before .before .before .before .before in
-    let q = z .args .query in (
-      puts-as (c .put-numbered .ensures .0)
-          (run-refused (s .search .result) (search-refusal (P z) (I z) q 1024) (ended (P z) (I z) q (q .budget)) (s .search .ensures .answers) (c .before .before .before .if1 .taken)),
-      c .put-numbered .ensures .1,
-    )
+    let p = c .before .before in
+    let s = p .before .before .before .before .before in
+    let z = s .before .before .before .before .before .before .before .before .before in
+    let q = z .args .query in
+    prints-as (record { puts = p .put-numbered .ensures; few = omega (arith, numbered-short word-query 9 (s .search .result .refusal) (omega arith)) })
+    (run-refused (s .search .result) (search-refusal (P z) (I z) q 1024) (ended (P z) (I z) q (q .budget)) (s .search .ensures .answers) (c .before .before .before .before .before .if1 .taken))
 
 returns-2 : tie.Need-returns-2
 returns-2 c =
-    let s = c .before .before .before .before .before .before in
-    let z = c .before .before .before .before .before .before .before .before .before .before .before .before .before .before in
-    let q = z .args .query in (
-      puts-as (c .put-answer .ensures .0)
-          (run-listed (s .search .result) (search-refusal (P z) (I z) q 1024) (ended (P z) (I z) q (q .budget)) _ _ (s .search .ensures .answers) (s .search .ensures .lists)
-          (c .before .before .before .before .if1 .left)),
-      c .put-answer .ensures .1,
-    )
+    let p = c .before .before in
+    let s = p .before .before .before .before .before .before in
+    let z = s .before .before .before .before .before .before .before .before .before in
+    let q = z .args .query in
+    prints-as (record { puts = p .put-answer .ensures .0; few = omega (arith, simp length-take at (p .put-answer .ensures .1)) })
+    (run-listed (s .search .result) (search-refusal (P z) (I z) q 1024) (ended (P z) (I z) q (q .budget)) _ _ (s .search .ensures .answers) (s .search .ensures .lists)
+    (c .before .before .before .before .before .before .if1 .left))
 
 pub respond-search-spec : {M : Type 1} → statement M
 respond-search-spec =
@@ -54,10 +51,12 @@ respond-search-spec =
     (λ c. search needs)
     (λ c κs. search needs)
     (λ c. search needs)
-    (λ c κs. numbered-room word-query 9 (omega arith) (omega arith))
+    (λ c κs. search needs)
+    (λ c. search needs)
     returns
     (λ c. search needs)
     (λ c. count-fits (c .before .before .before .before))
     (λ c. simp length-take (omega (arith, count-fits (c .before .before .before .before .before))))
-    (λ c κs. simp length-take (omega arith))
+    (λ c κs. search needs)
+    (λ c. search needs)
     returns-2)

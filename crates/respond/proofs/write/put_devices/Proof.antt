@@ -1,10 +1,11 @@
--- `put_devices` meets its contract: after i turns the lines of the first i devices are written, 15 bytes at most for each.
+-- `put_devices` meets its contract: after i turns the lines of the first i devices are written; a device has five digits at most.
 use Prim.Native.Nat.{_-_}
-use Rattle.respond.proofs.Listing.{DevicesPut, devices-none, devices-more, devices-put, devices-end}
+use lib.ListN.{length}
+use borrow.Author.Needs.{needs}
+use native.Mathlib.Omega.{arith}
+use Rattle.respond.proofs.Listing.{DevicesPut, devices-none, devices-more, devices-put, devices-short}
 use Rattle.respond.proofs.write.put_devices.Statement.{statement}
 use Rattle.respond.proofs.write.put_devices.Tie as tie
-use borrow.Author.Needs.{needs}
-use lib.ListN.{length}
 
 abbrev Inv-loop : tie.InvT-loop
 Inv-loop out₀ at listing next₀ i₀ out next i = DevicesPut out₀ at listing out next i
@@ -25,4 +26,5 @@ put-devices-spec =
     (λ c. search needs)
     (λ c. search needs)
     (λ c. search (needs, devices-more))
-    (λ c. (search (needs, devices-put), search (needs, devices-end))))
+    (λ c. search needs)
+    (λ c. (search (needs, devices-put), devices-short _ (λ i. omega (arith, c .before .before .shared-slice-known .given i)))))
