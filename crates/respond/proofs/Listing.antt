@@ -29,7 +29,7 @@ unfolding device-lines
 device-line d = append-nil (numbered word-device d)
 
 -- the lines of devices of five digits at most
-pub devices-short : (listing : List ℕ) → ((i : ℕ) → getD listing i 0 < 65536) → length (device-lines listing) ≤ 15 * length listing
+devices-short : (listing : List ℕ) → ((i : ℕ) → getD listing i 0 < 65536) → length (device-lines listing) ≤ 15 * length listing
 unfolding device-lines
 devices-short [] h = omega arith
 devices-short (d ∷ ds) h =
@@ -66,7 +66,7 @@ module _ (listing : List ℕ) (position moves : ℕ) where
   unfolding answer-text
   answer-put {i₁} a b c d e = let z : 0 + i₁ ≡ i₁ = omega arith in (rw z at (puts a)) then b then c then d then puts e
 
-  pub answer-short : length (device-lines listing) ≤ 15 * length listing → position < 10 ^ 10 → moves < 10 ^ 10 →
+  pub answer-short : ((i : ℕ) → getD listing i 0 < 65536) → position < 10 ^ 10 → moves < 10 ^ 10 →
       length (answer-text listing position moves) ≤ 48 + 15 * length listing
   unfolding answer-text
-  answer-short h p m = simp length-append (omega (arith, numeral-short 9 position p, numeral-short 9 moves m))
+  answer-short h p m = simp length-append (omega (arith, devices-short listing h, numeral-short 9 position p, numeral-short 9 moves m))

@@ -31,10 +31,9 @@ fn put_device(out: &mut [u8], at: usize, d: u16) -> usize
     put_numbered(out, at, b"(device ", d as u32)
 }
 
-// The lines of a listing: 15 bytes at most for each device.
+// The lines of a listing.
 fn put_devices(out: &mut [u8], at: usize, listing: &[u16]) -> usize
-    ensures puts { λ r. ⌜ Puts (now (out .entry)) at («device-lines» (now (listing .entry))) (now (out .exit)) r ⌝ }
-    ensures few { λ _. ⌜ length («device-lines» (now (listing .entry))) ≤ 15 * length (now (listing .entry)) ⌝ }
+    ensures { λ r. ⌜ Puts (now (out .entry)) at («device-lines» (now (listing .entry))) (now (out .exit)) r ⌝ }
 {
     let mut next = at;
     let mut i = 0;
@@ -45,7 +44,7 @@ fn put_devices(out: &mut [u8], at: usize, listing: &[u16]) -> usize
     next
 }
 
-// The whole of an answer, from the start of the buffer.
+// The whole of an answer, from the start of the buffer: 15 bytes at most for each device, and 48 beside them.
 pub fn put_answer(out: &mut [u8], listing: &[u16], position: u32, moves: u32) -> usize
     ensures puts { λ r. ⌜ Puts (now (out .entry)) 0 («answer-text» (now (listing .entry)) position moves) (now (out .exit)) r ⌝ }
     ensures few { λ _. ⌜ length («answer-text» (now (listing .entry)) position moves) ≤ 48 + 15 * length (now (listing .entry)) ⌝ }

@@ -99,12 +99,12 @@ numeral-next a b h l u =
     let m : 48 + (a * 10 + (b - 48)) % 10 ≡ b = omega arith in
     numeral-more (a * 10 + (b - 48)) (omega arith) ∙ rw (d, m)
 
-none-is-none : {X : Type 0} (n : ℕ) → none ≡ some n → X
-none-is-none n e = let z : _≡_ {A = ℕ} 0 1 = cc in absurd (omega arith)
+none-not-some : {X : Type 0} (n : ℕ) → none ≡ some n → X
+none-not-some n e = let z : _≡_ {A = ℕ} 0 1 = cc in absurd (omega arith)
 
 is-digit : (a b n : ℕ) (s : List ℕ) → decimal a (b ∷ s) ≡ some n → (48 ≤ b) × (b ≤ 57)
 unfolding decimal
-is-digit a b n s h = either (digit b) (λ e. simp tests at e) (λ e. none-is-none n (rw e at h))
+is-digit a b n s h = either (digit b) (λ e. simp tests at e) (λ e. none-not-some n (rw e at h))
 
 -- digits that are read after those of a number
 read-after : (a n : ℕ) (s : List ℕ) → 1 ≤ a → decimal a s ≡ some n → numeral a ++ s ≡ numeral n
@@ -126,10 +126,10 @@ first-read b n s h =
 -- bytes that read as n are the digits of n
 pub reads-numeral : (n : ℕ) (l : List ℕ) → number l ≡ some n → l ≡ numeral n
 unfolding number decimal
-reads-numeral n [] h = none-is-none n h
+reads-numeral n [] h = none-not-some n h
 reads-numeral n (b ∷ []) h = let d = first-read b n [] h in let e : n ≡ b - 48 = cc in rw e (sym (d .0))
 reads-numeral n (b ∷ c ∷ cs) h =
-    either (eqb b 48) (λ e. none-is-none n (rw e at h))
+    either (eqb b 48) (λ e. none-not-some n (rw e at h))
     (λ e.
     let d = first-read b n (c ∷ cs) (rw e at h) in
     let g = is-digit 0 b n (c ∷ cs) (rw e at h) in
@@ -148,7 +148,7 @@ numeral-short (suc k) n h =
     (λ l. rw (numeral-more n l, length-append) (let f = numeral-short k (n / 10) (omega arith) in omega arith))
 
 numeral-some : (n : ℕ) → 0 < length (numeral n)
-numeral-some n = by-order n 10 (λ l. rw (numeral-one n l) (omega arith)) (λ l. rw (numeral-more n l, length-append) (omega arith))
+numeral-some n = rw (leads n .is) (omega arith)
 
 numeral-long : (k n : ℕ) → 10 ^ k ≤ n → k < length (numeral n)
 numeral-long zero n h = numeral-some n

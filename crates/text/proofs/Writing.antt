@@ -1,5 +1,5 @@
 -- Bytes written into a buffer, one after another, and the loops that write a word and a number.
-use Prim.Native.Nat.{ℕ, zero, suc, _+_, _-_, _/_, _%_, _≤_, _<_, max}
+use Prim.Native.Nat.{ℕ, suc, _+_, _-_, _/_, _%_, _≤_, _<_}
 use mathlib.Core.Path.{_≡_, refl, sym, ap, _∙_}
 use mathlib.Core.Bool.{Bool, true, false}
 use mathlib.Core.List.{List, [], _∷_, _++_, append-assoc, append-nil}
@@ -11,7 +11,7 @@ use lib.Seq.{paste, paste-zero, paste-suc, length-take-le, take-suc, take-length
 use Rattle.laws.proofs.Tests.{flags}
 use Rattle.laws.proofs.Cases.{either}
 use Rattle.text.specs.Decimal.{numeral}
-use Rattle.text.specs.Writing.{with-bytes, all-or-none, Writes}
+use Rattle.text.specs.Writing.{with-bytes, Writes}
 use Rattle.text.specs.inner.Puts.{Puts}
 use Rattle.text.proofs.Numerals.{padded, length-padded, numeral-padded}
 
@@ -57,12 +57,11 @@ short-past length at count h = let e : ltb length (at + count) ≡ true = omega 
 pub writes-all : {l w l′ : List ℕ} {at count : ℕ} → at + length w ≤ length l → l′ ≡ with-bytes l at w → count ≡ length w → Writes l at w l′ count
 writes-all {l} {w} {at} h s c = let e : leb (at + length w) (length l) ≡ true = omega flags in record { stored = rw e s; counted = rw e c; within = omega arith }
 
-module _ {l : List ℕ} (w : List ℕ) {at count : ℕ} {short : Bool} (c : count ≡ length w) (e : short ≡ ltb (length l) (at + count)) where
-  pub writes-none : short ≡ true → Writes l at w l 0
-  writes-none h =
-      let t : ltb (length l) (at + count) ≡ true = sym e ∙ h in
-      let f : leb (at + length w) (length l) ≡ false = omega flags in
-      record { stored = rw f (sym (with-none l at)); counted = rw f; within = omega arith }
+pub writes-none : {l w : List ℕ} {at count : ℕ} {short : Bool} → count ≡ length w → short ≡ ltb (length l) (at + count) → short ≡ true → Writes l at w l 0
+writes-none {l} {w} {at} {count} c e h =
+    let t : ltb (length l) (at + count) ≡ true = sym e ∙ h in
+    let f : leb (at + length w) (length l) ≡ false = omega flags in
+    record { stored = rw f (sym (with-none l at)); counted = rw f; within = omega arith }
 
 has-room : (at count : ℕ) (l w : List ℕ) {short : Bool} → count ≡ length w → short ≡ ltb (length l) (at + count) → short ≡ false → at + length w ≤ length l
 has-room at count l w c e h = let t : ltb (length l) (at + count) ≡ false = sym e ∙ h in omega flags
@@ -170,7 +169,3 @@ _then_ {l} {l′} {l″} {a} {b} {i} {n} {m} p q =
           let e = p .moved (omega arith) in
           q .moved (omega (arith, p .same)) ∙ rw (e, length-append) (omega arith);
     }
-
--- the same bytes, written another way
-pub puts-as : {l l′ a b : List ℕ} {i n : ℕ} → Puts l i a l′ n → a ≡ b → Puts l i b l′ n
-puts-as p e = rw e at p

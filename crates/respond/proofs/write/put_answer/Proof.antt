@@ -1,4 +1,4 @@
--- `put_answer` meets its contract: its five parts stand one after another, with numbers of ten digits at most.
+-- `put_answer` meets its contract: its five parts stand one after another, a device of five digits at most and numbers of ten.
 use borrow.Author.Needs.{needs}
 use native.Mathlib.Omega.{arith}
 use Rattle.respond.proofs.Listing.{answer-put, answer-short}
@@ -13,8 +13,8 @@ returns c =
     let devices = place .before .before .before .before .before in
     let first = devices .before .before .before .before in
     let start = first .before .before .before .before .before in (
-      answer-put _ _ _ (first .put-word .ensures) (devices .put-devices .ensures .0) (place .put-numbered .ensures) (moves .put-numbered2 .ensures) (end .put-word2 .ensures),
-      answer-short _ _ _ (devices .put-devices .ensures .1) (omega (arith, start)) (omega (arith, start)),
+      answer-put _ _ _ (first .put-word .ensures) (devices .put-devices .ensures) (place .put-numbered .ensures) (moves .put-numbered2 .ensures) (end .put-word2 .ensures),
+      answer-short _ _ _ (λ i. omega (arith, first .before .before .before .shared-slice-known .given i)) (omega (arith, start)) (omega (arith, start)),
     )
 
 pub put-answer-spec : {M : Type 1} → statement M

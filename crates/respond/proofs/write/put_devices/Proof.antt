@@ -1,9 +1,8 @@
--- `put_devices` meets its contract: after i turns the lines of the first i devices are written; a device has five digits at most.
+-- `put_devices` meets its contract: after i turns the lines of the first i devices are written.
 use Prim.Native.Nat.{_-_}
 use lib.ListN.{length}
 use borrow.Author.Needs.{needs}
-use native.Mathlib.Omega.{arith}
-use Rattle.respond.proofs.Listing.{DevicesPut, devices-none, devices-more, devices-put, devices-short}
+use Rattle.respond.proofs.Listing.{DevicesPut, devices-none, devices-more, devices-put}
 use Rattle.respond.proofs.write.put_devices.Statement.{statement}
 use Rattle.respond.proofs.write.put_devices.Tie as tie
 
@@ -27,4 +26,4 @@ put-devices-spec =
     (λ c. search needs)
     (λ c. search (needs, devices-more))
     (λ c. search needs)
-    (λ c. (search (needs, devices-put), devices-short _ (λ i. omega (arith, c .before .before .shared-slice-known .given i)))))
+    (λ c. search (needs, devices-put)))

@@ -1,5 +1,4 @@
 -- `put_number` meets its contract: the digits from i on are stored, and those before them are the last i of `rest`.
-use lib.ListN.{length}
 use borrow.Author.Needs.{needs}
 use Rattle.text.proofs.Numerals.{numeral-form}
 use Rattle.text.proofs.Writing.{writes-none, NumberPut, number-none, number-more, number-whole}
