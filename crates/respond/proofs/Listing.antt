@@ -6,10 +6,11 @@ use native.Mathlib.Omega.{arith}
 use native.Mathlib.Numerals.{add-one}
 use lib.ListN.{length, take, getD, length-append}
 use lib.Seq.{take-suc, take-all}
+use Rattle.text.specs.Writing.{Writes}
 use Rattle.text.specs.inner.Puts.{Puts}
 use Rattle.text.proofs.Numerals.{numeral-short}
-use Rattle.text.specs.Writing.{Writes}
 use Rattle.text.proofs.Writing.{puts, puts-none, _then_}
+use Rattle.respond.specs.inner.Prints.{answer-bytes}
 use Rattle.respond.specs.Lines.{word-answer, word-device, word-place, word-moves, ending, numbered, numbered₂, device-lines, answer-text}
 
 -- the bytes of a line whose number is below a power of ten, and of one with two numbers
@@ -67,6 +68,6 @@ module _ (listing : List ℕ) (position moves : ℕ) where
   answer-put {i₁} a b c d e = let z : 0 + i₁ ≡ i₁ = omega arith in (rw z at (puts a)) then b then c then d then puts e
 
   pub answer-short : ((i : ℕ) → getD listing i 0 < 65536) → position < 10 ^ 10 → moves < 10 ^ 10 →
-      length (answer-text listing position moves) ≤ 48 + 15 * length listing
+      length (answer-text listing position moves) ≤ answer-bytes (length listing)
   unfolding answer-text
   answer-short h p m = simp length-append (omega (arith, devices-short listing h, numeral-short 9 position p, numeral-short 9 moves m))

@@ -1,9 +1,10 @@
 // Lines and the whole of an answer, written into the output buffer. Each function returns where the next byte goes.
 use text::put_number;
 use text::put_word;
-ghost use Prim.Native.Nat.{_+_, _*_, _≤_};
+ghost use Prim.Native.Nat.{_≤_};
 ghost use lib.ListN.{length};
 ghost use Rattle.text.specs.inner.Puts.{Puts};
+ghost use Rattle.respond.specs.inner.Prints.{«answer-bytes»};
 ghost use Rattle.respond.specs.Lines.{«word-device», numbered, «numbered₂», «device-lines», «answer-text»};
 
 // A line of a word, a number and a closing bracket.
@@ -44,10 +45,10 @@ fn put_devices(out: &mut [u8], at: usize, listing: &[u16]) -> usize
     next
 }
 
-// The whole of an answer, from the start of the buffer: 15 bytes at most for each device, and 48 beside them.
+// The whole of an answer, from the start of the buffer.
 pub fn put_answer(out: &mut [u8], listing: &[u16], position: u32, moves: u32) -> usize
     ensures puts { λ r. ⌜ Puts (now (out .entry)) 0 («answer-text» (now (listing .entry)) position moves) (now (out .exit)) r ⌝ }
-    ensures few { λ _. ⌜ length («answer-text» (now (listing .entry)) position moves) ≤ 48 + 15 * length (now (listing .entry)) ⌝ }
+    ensures few { λ _. ⌜ length («answer-text» (now (listing .entry)) position moves) ≤ «answer-bytes» (length (now (listing .entry))) ⌝ }
 {
     let first = put_word(out, 0, b"(answer\n");
     let devices = put_devices(out, first, listing);

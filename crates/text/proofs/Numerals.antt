@@ -11,7 +11,7 @@ use lib.Dec.{ltb, eqb}
 use lib.ListN.{length, length-append}
 use Rattle.laws.proofs.Tests.{tests, flags}
 use Rattle.laws.proofs.Cases.{either, by-order}
-use Rattle.text.specs.Decimal.{digit, decimal, number, numeral-in, numeral, FormOf}
+use Rattle.text.specs.Decimal.{digit, decimal, number, numeral-in, numeral, WrittenAs}
 use Rattle.text.proofs.Decimal.{digit-is, number-first}
 
 -- no more digits are looked for than there are
@@ -135,7 +135,8 @@ reads-numeral n (b ∷ c ∷ cs) h =
     let g = is-digit 0 b n (c ∷ cs) (rw e at h) in
     rw (d .0) at (read-after (b - 48) n (c ∷ cs) (omega flags) (d .1)))
 
-pub numeral-form : (n : ℕ) → FormOf n (numeral n)
+-- so there is one way to write a number
+pub numeral-form : (n : ℕ) → WrittenAs n (numeral n)
 numeral-form n = record { reads = numeral-reads n; alone = reads-numeral n }
 
 -- ---- how many digits

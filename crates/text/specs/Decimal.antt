@@ -33,8 +33,8 @@ numeral-in (suc k) n = cond (ltb n 10) ((48 + n) ∷ []) (numeral-in k (n / 10) 
 unfoldable pub numeral : ℕ → List ℕ
 numeral n = numeral-in (n + 1) n
 
--- the form of a number: bytes that read as it, and no other bytes do
-pub record FormOf (n : ℕ) (bytes : List ℕ) : Type 0 where
+-- n is written as these bytes: they read as n, and no others do
+pub record WrittenAs (n : ℕ) (bytes : List ℕ) : Type 0 where
   pub reads : number bytes ≡ some n
   pub alone : (l : List ℕ) → number l ≡ some n → l ≡ bytes
 

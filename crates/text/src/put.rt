@@ -3,7 +3,7 @@ ghost use mathlib.Core.Path.{_≡_};
 ghost use Prim.Native.Nat.{_+_};
 ghost use lib.Dec.{ltb};
 ghost use lib.ListN.{length};
-ghost use Rattle.text.specs.Decimal.{numeral, FormOf};
+ghost use Rattle.text.specs.Decimal.{numeral, WrittenAs};
 ghost use Rattle.text.specs.Writing.{Writes};
 
 // Writes a word from `at` on where there is room for it, else nothing. Returns how many bytes.
@@ -24,7 +24,7 @@ pub fn put_word(out: &mut [u8], at: usize, word: &[u8]) -> usize
 // Writes a number in the same way: 0, or its digits without a leading zero.
 pub fn put_number(out: &mut [u8], at: usize, n: u64) -> usize
     ensures writes { λ r. ⌜ Writes (now (out .entry)) at (numeral n) (now (out .exit)) r ⌝ }
-    ensures form { λ _. ⌜ FormOf n (numeral n) ⌝ }
+    ensures form { λ _. ⌜ WrittenAs n (numeral n) ⌝ }
 {
     let count = digit_count(n);
     if too_short(out.len(), at, count) {

@@ -5,11 +5,11 @@ use lib.ListN.{length}
 use Rattle.text.specs.inner.Puts.{Puts}
 use Rattle.respond.specs.Limits.{device-room}
 
--- the most bytes that are printed: those of an answer, with a line of 15 bytes for each device and two numbers of ten digits
-abbrev pub most-bytes : ℕ
-most-bytes = 48 + 15 * device-room
+-- the most bytes of an answer that lists so many devices: 15 for the line of each, and 48 beside them, with numbers of ten digits
+abbrev pub answer-bytes : ℕ → ℕ
+answer-bytes devices = 48 + 15 * devices
 
--- the text stands at the front of the buffer where there is room for it, and it is no longer than the longest
+-- the text stands at the front of the buffer where there is room for it, and is no longer than the longest answer
 pub record Prints (out bytes out′ : List ℕ) (count : ℕ) : Type 0 where
   pub puts : Puts out 0 bytes out′ count
-  pub few : length bytes ≤ most-bytes
+  pub few : length bytes ≤ answer-bytes device-room

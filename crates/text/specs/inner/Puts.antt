@@ -5,7 +5,8 @@ use mathlib.Core.List.{List}
 use lib.ListN.{length}
 use Rattle.text.specs.Writing.{with-bytes}
 
--- where the buffer has room for all the bytes from `at` on, they stand there, and the next byte goes after them; at most the buffer is full
+-- where the buffer has room for the bytes from `at` on, they stand there, and the next byte goes after them; in any case the buffer keeps
+-- its length, and what is written ends within it
 pub record Puts (out : List ℕ) (at : ℕ) (bytes out′ : List ℕ) (next : ℕ) : Type 0 where
   pub same : length out′ ≡ length out
   pub near : next ≤ max at (length out)
