@@ -1,65 +1,37 @@
 // A text of more terms than there is room for.
+use text::put_number;
+use text::put_word;
 ghost use Prim.Native.Nat.{_≤_};
+ghost use lib.ListN.{length};
 
-fn put(text: &mut [u8; 4096], at: usize, b: u8) -> usize
-    ensures { λ r. ⌜ r ≤ 4096 ⌝ }
+// The line that opens term n.
+fn put_term(out: &mut [u8], at: usize, n: u32) -> usize
+    requires { ⌜ at ≤ length (now out) ⌝ }
+    ensures { λ r. ⌜ r ≤ length (now (out .entry)) ⌝ }
 {
-    if at < 4096 {
-        text[at] = b;
-        return at + 1;
-    }
-    4096
+    let term = at + put_word(out, at, b"(mark ");
+    let end = term + put_number(out, term, n as u64);
+    end + put_word(out, end, b"\n")
 }
 
-fn put_word(text: &mut [u8; 4096], at: usize, word: &[u8]) -> usize {
-    let mut next = at;
-    let mut i = 0;
-    while i < word.len() {
-        next = put(text, next, word[i]);
-        i += 1;
-    }
-    next
-}
-
-fn digit(n: u32) -> u8 {
-    48 + low(n % 10)
-}
-
-fn low(n: u32) -> u8
-    ensures { λ r. ⌜ r ≤ 10 ⌝ }
+// The line that closes it.
+fn put_close(out: &mut [u8], at: usize) -> usize
+    requires { ⌜ at ≤ length (now out) ⌝ }
+    ensures { λ r. ⌜ r ≤ length (now (out .entry)) ⌝ }
 {
-    if n < 10 { n as u8 } else { 10 }
-}
-
-// The line that opens term n, below 1,000.
-fn put_term(text: &mut [u8; 4096], at: usize, n: u32) -> usize
-    ensures { λ r. ⌜ r ≤ 4096 ⌝ }
-{
-    let mut next = put_word(text, at, b"(mark ");
-    if 100 <= n {
-        next = put(text, next, digit(n / 100));
-    }
-    if 10 <= n {
-        next = put(text, next, digit(n / 10));
-    }
-    next = put(text, next, digit(n));
-    put(text, next, 10)
+    at + put_word(out, at, b")\n")
 }
 
 // Terms from 1 on, closed but for the last, at the front of the buffer. Returns how many bytes.
-pub fn terms(text: &mut [u8; 4096], n: u32) -> usize
-    ensures { λ r. ⌜ r ≤ 4096 ⌝ }
+pub fn terms(out: &mut [u8], n: u32) -> usize
+    ensures { λ r. ⌜ r ≤ length (now (out .entry)) ⌝ }
 {
-    let mut next = put_word(text, 0, b"(plant\n");
+    let mut next = put_word(out, 0, b"(plant\n");
     let mut i: u32 = 1;
     while i < n {
-        let opened = put_term(text, next, i);
-        next = put_close(text, opened);
+        let opened = put_term(out, next, i);
+        next = put_close(out, opened);
         i += 1;
     }
-    put_term(text, next, n)
-}
-
-fn put_close(text: &mut [u8; 4096], at: usize) -> usize {
-    put_word(text, at, b")\n")
+    put_term(out, next, n)
 }

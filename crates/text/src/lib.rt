@@ -1,4 +1,4 @@
-// Lines, numbers and forms of a text, read, and words and numbers, written: what all texts share.
+// What all texts share: lines, numbers and forms, as they are read, and words and numbers, as they are written.
 mod put;
 
 pub use put::put_number;

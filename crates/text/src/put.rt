@@ -21,7 +21,7 @@ pub fn put_word(out: &mut [u8], at: usize, word: &[u8]) -> usize
     i
 }
 
-// Writes a number in the same way: 0, or its digits without a leading zero.
+// Writes a number in the same way: 0, or its digits without a leading zero. Each digit goes straight to its place, the last one first.
 pub fn put_number(out: &mut [u8], at: usize, n: u64) -> usize
     ensures writes { λ r. ⌜ Writes (now (out .entry)) at (numeral n) (now (out .exit)) r ⌝ }
     ensures form { λ _. ⌜ WrittenAs n (numeral n) ⌝ }
@@ -41,7 +41,7 @@ pub fn put_number(out: &mut [u8], at: usize, n: u64) -> usize
     count
 }
 
-// How many digits a number has.
+// How many digits a number has: one, and one for each power of ten that the number without its last digit reaches.
 fn digit_count(n: u64) -> usize
     ensures { λ r. ⌜ r ≡ length (numeral n) ⌝ }
 {
