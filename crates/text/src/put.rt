@@ -33,10 +33,9 @@ pub fn put_number(out: &mut [u8], at: usize, n: u64) -> usize
     let mut rest = n;
     let mut i = count;
     while 0 < i {
-        let place = i - 1;
-        out[at + place] = b'0' + (rest % 10) as u8;
+        i -= 1;
+        out[at + i] = b'0' + (rest % 10) as u8;
         rest = rest / 10;
-        i = place;
     }
     count
 }
