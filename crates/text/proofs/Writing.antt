@@ -54,7 +54,7 @@ module _ (l : List ℕ) (i : ℕ) (a : List ℕ) where
 pub short-past : (length at count : ℕ) → length < at → true ≡ ltb length (at + count)
 short-past length at count h = let e : ltb length (at + count) ≡ true = omega flags in sym e
 
-pub writes-all : {l w l′ : List ℕ} {at count : ℕ} → at + length w ≤ length l → l′ ≡ with-bytes l at w → count ≡ length w → Writes l at w l′ count
+writes-all : {l w l′ : List ℕ} {at count : ℕ} → at + length w ≤ length l → l′ ≡ with-bytes l at w → count ≡ length w → Writes l at w l′ count
 writes-all {l} {w} {at} h s c = let e : leb (at + length w) (length l) ≡ true = omega flags in record { stored = rw e s; counted = rw e c; within = omega arith }
 
 pub writes-none : {l w : List ℕ} {at count : ℕ} {short : Bool} → count ≡ length w → short ≡ ltb (length l) (at + count) → short ≡ true → Writes l at w l 0
