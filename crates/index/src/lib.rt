@@ -6,6 +6,7 @@ mod refusals;
 
 pub use forward::first_at_least;
 pub use forward::seek;
+pub use list::list_at;
 pub use list::list_of;
 pub use refusals::check;
 pub use refusals::rows;

@@ -1,10 +1,10 @@
 // The list of a term, a part of the postings.
 use integers::least;
+use integers::one_less;
 use integers::u16_to_u32;
 use integers::u32_to_usize;
 ghost use mathlib.Core.Path.{_≡_};
 ghost use mathlib.Core.List.{[]};
-ghost use Prim.Native.Nat.{_≤_};
 ghost use lib.ListN.{length, getD};
 ghost use lib.Seq.{slice};
 ghost use Rattle.index.specs.Index.{index, list};
@@ -24,10 +24,9 @@ pub fn list_of<'a>(terms: &[u16], starts: &[u32], postings: &'a [u32], term: u32
 
 // The k-th list, counted from 1: it ends where the next starts, or at the end of the postings.
 pub fn list_at<'a>(starts: &[u32], postings: &'a [u32], k: usize) -> &'a [u32]
-    requires { ⌜ 1 ≤ k ⌝ }
     ensures { λ r. ⌜ now r ≡ list (index [] (now (starts .entry)) (now (postings .entry))) k ⌝ }
 {
-    let start = start_at(starts, k - 1, 0);
+    let start = start_at(starts, one_less(k), 0);
     let end = start_at(starts, k, postings.len());
     part(postings, start, end)
 }

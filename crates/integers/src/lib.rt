@@ -1,6 +1,6 @@
-// Integers in a wider type, and the least of two: what asks nothing of a caller, in one place.
+// Integers in a wider type, the least of two and the number before one: what asks nothing of a caller, in one place.
 ghost use mathlib.Core.Path.{_≡_};
-ghost use Prim.Native.Nat.{min};
+ghost use Prim.Native.Nat.{_-_, min};
 
 pub fn least(a: usize, b: usize) -> usize
     ensures { λ r. ⌜ r ≡ min a b ⌝ }
@@ -12,6 +12,19 @@ pub fn least_u32(a: u32, b: u32) -> u32
     ensures { λ r. ⌜ r ≡ min a b ⌝ }
 {
     if b < a { b } else { a }
+}
+
+// The number before n, and 0 for 0.
+pub fn one_less(n: usize) -> usize
+    ensures { λ r. ⌜ r ≡ n - 1 ⌝ }
+{
+    if n == 0 { 0 } else { n - 1 }
+}
+
+pub fn u8_to_u32(x: u8) -> u32
+    ensures { λ r. ⌜ r ≡ x ⌝ }
+{
+    x as u32
 }
 
 pub fn u8_to_u64(x: u8) -> u64

@@ -6,3 +6,4 @@ pub mod Rows
 pub mod Lists
 pub mod Maps
 pub mod Front
+pub mod Tally

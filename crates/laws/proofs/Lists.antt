@@ -1,10 +1,10 @@
 -- Laws of lists: parts from one index up to another, and entries with another default.
-use Prim.Native.Nat.{ℕ, zero, suc, _-_, _<_, min}
+use Prim.Native.Nat.{ℕ, zero, suc, _+_, _-_, _<_, _≤_, min}
 use native.Mathlib.Omega.{arith}
-use mathlib.Core.List.{List, [], _∷_}
-use mathlib.Core.Path.{_≡_, refl, _∙_}
+use mathlib.Core.List.{List, [], _∷_, _++_}
+use mathlib.Core.Path.{_≡_, refl, ap, _∙_}
 use lib.ListN.{length, getD, take, drop, length-take, drop-of-length-le}
-use lib.Seq.{slice, take-all, take-length, take-nil, drop-length}
+use lib.Seq.{slice, slice-cons, slice-empty, take-all, take-length, take-nil, take-take, drop-length, getD-take, getD-drop, length-take-le}
 use Rattle.laws.proofs.Cases.{by-order}
 
 -- an entry within the list does not depend on the default
@@ -39,3 +39,25 @@ slice-clamped a e l =
 -- so a part that code takes from bounds which it keeps within the list is the part between them
 pub slice-part : (a e : ℕ) (l : List ℕ) {from to : ℕ} → to ≡ min e (length l) → from ≡ min a to → take (to - from) (drop from l) ≡ slice a e l
 slice-part a e l {from} {to} p q = slice-taken from to l ∙ rw (q, p) (slice-clamped a e l)
+
+-- two parts that meet are one
+pub slice-join : (l : List ℕ) (a m e : ℕ) → a ≤ m → m ≤ e → e ≤ length l → slice a m l ++ slice m e l ≡ slice a e l
+slice-join l a m e p q h = go (m - a) a (omega arith)
+  where
+    go : (j : ℕ) (a : ℕ) → a + j ≡ m → slice a m l ++ slice m e l ≡ slice a e l
+    go zero a z = let y : a ≡ m = omega arith in rw (y, slice-empty m l)
+    go (suc j) a z =
+        let u : a < m = omega arith in
+        let v : m ≤ length l = omega arith in
+        let w : a < e = omega arith in
+        rw (slice-cons a m l 0 u v, slice-cons a e l 0 w h) (ap (λ (t : List ℕ). getD l a 0 ∷ t) (go j (suc a) (omega arith)))
+
+-- the front of a part
+pub slice-front : (l : List ℕ) (b p c : ℕ) → b ≤ p → p ≤ c → c ≤ length l → take (p - b) (slice b c l) ≡ slice b p l
+slice-front l b p c x y z =
+    let n : length (take c l) ≡ c = length-take-le c l z in
+    slice-part b p (take c l) {from = b} {to = p} (omega arith) (omega arith) ∙ rw (take-take p c l y)
+
+-- an entry of a part
+pub getD-slice : (l : List ℕ) (b p c : ℕ) → b ≤ p → p < c → getD (slice b c l) (p - b) 0 ≡ getD l p 0
+getD-slice l b p c x y = let e : b + (p - b) ≡ p = omega arith in getD-drop b (take c l) (p - b) 0 ∙ rw (e, getD-take c l p 0 y)

@@ -1,6 +1,6 @@
--- Conditions over all numbers 1 to n: over all devices of a plant, all terms of an index, all postings of a list.
+-- Conditions on the numbers 1 to n, and how many of them pass one: over all devices of a plant, all terms of an index, all postings of a list.
 use Prim.Native.Nat.{ℕ, zero, suc}
-use mathlib.Core.Bool.{Bool, false, _||_}
+use mathlib.Core.Bool.{Bool, false, cond, _||_}
 use Rattle.laws.specs.Rows.{pick}
 
 -- whether some number of 1 to n passes a test
@@ -12,3 +12,8 @@ any (suc n) f = any n f || f (suc n)
 unfoldable pub lowest : ℕ → (ℕ → Bool) → ℕ
 lowest zero f = zero
 lowest (suc n) f = pick (any n f) (lowest n f) (suc n)
+
+-- how many numbers of 1 to n pass a test
+unfoldable pub tally : ℕ → (ℕ → Bool) → ℕ
+tally zero f = zero
+tally (suc n) f = cond (f (suc n)) (suc (tally n f)) (tally n f)
