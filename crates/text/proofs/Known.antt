@@ -51,7 +51,7 @@ literal [] = true
 literal (w ∷ ws) = (not (eqb w any-number) && not (eqb w 10)) && literal ws
 
 module _ (w : ℕ) (ws : List ℕ) (h : literal (w ∷ ws) ≡ true) where
-  first-literal : (eqb w any-number ≡ false) × (eqb w 10 ≡ false) × (literal ws ≡ true)
+  pub first-literal : (eqb w any-number ≡ false) × (eqb w 10 ≡ false) × (literal ws ≡ true)
   unfolding literal
   first-literal =
       let p = and-yes (not (eqb w any-number) && not (eqb w 10)) (literal ws) .0 h in
@@ -68,12 +68,12 @@ line-word (w ∷ ws) t at e h =
     let m : at + 1 + length ws ≡ at + suc (length ws) = omega arith in
     rw (line-cons t at (p .0) n, p .1, line-word ws t (at + 1) (l .2) (p .2), m)
 
-fit-word : (w ps l : List ℕ) (m n : ℕ) → literal w ≡ true → fit-after m n (w ++ ps) (w ++ l) ≡ fit-after m n ps l
+pub fit-word : (w ps l : List ℕ) (m n : ℕ) → literal w ≡ true → fit-after m n (w ++ ps) (w ++ l) ≡ fit-after m n ps l
 unfolding fit-after
 fit-word [] ps l m n e = refl
 fit-word (w ∷ ws) ps l m n e = let p = first-literal w ws e in rw (p .0, eq-eqb w w refl) (fit-word ws ps l m n (p .2))
 
-fit-ending : (w : List ℕ) (m n : ℕ) → literal w ≡ true → fit-after m n w w ≡ fitting m n
+pub fit-ending : (w : List ℕ) (m n : ℕ) → literal w ≡ true → fit-after m n w w ≡ fitting m n
 unfolding fit-after
 fit-ending [] m n e = refl
 fit-ending (w ∷ ws) m n e = let p = first-literal w ws e in rw (p .0, eq-eqb w w refl) (fit-ending ws m n (p .2))

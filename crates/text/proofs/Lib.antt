@@ -6,4 +6,5 @@ pub mod Writing
 pub mod Patterns
 pub mod Forms
 pub mod Known
+pub mod Spelling
 pub mod Reading

@@ -7,11 +7,15 @@ use mathlib.Core.Option.{none, some}
 use native.Mathlib.Omega.{arith}
 use native.Mathlib.Nat.{one-le-pow}
 use native.Mathlib.Numerals.{add-one}
-use lib.Dec.{ltb, eqb}
+use mir.Val.{boolByte}
+use borrow.Author.Tests.{lt-ltb, le-ltb, le-leb, lt-leb}
+use lib.Dec.{leb, ltb, eqb}
 use lib.ListN.{length, length-append}
+use Rattle.laws.specs.Search.{tally}
 use Rattle.laws.proofs.Tests.{tests, flags}
 use Rattle.laws.proofs.Cases.{either, by-order}
 use Rattle.text.specs.Decimal.{digit, decimal, number, numeral-in, numeral, WrittenAs}
+use Rattle.text.specs.inner.Puts.{padded, Above}
 use Rattle.text.proofs.Decimal.{digit-is, number-first}
 
 -- no more digits are looked for than there are
@@ -32,7 +36,7 @@ unfolding numeral numeral-in
 numeral-more n h = let e : ltb n 10 ≡ false = omega flags in rw (add-one n, e, enough n (n / 10 + 1) (n / 10) (omega arith) (omega arith))
 
 -- so what holds of one digit, and of a number with one digit more, holds of each
-by-digits : (P : ℕ → Type 0) → ((n : ℕ) → n < 10 → P n) → ((n : ℕ) → 10 ≤ n → P (n / 10) → P n) → (n : ℕ) → P n
+pub by-digits : (P : ℕ → Type 0) → ((n : ℕ) → n < 10 → P n) → ((n : ℕ) → 10 ≤ n → P (n / 10) → P n) → (n : ℕ) → P n
 by-digits P one more n = go (n + 1) n (omega arith)
   where
     go : (k n : ℕ) → n < k → P n
@@ -158,6 +162,65 @@ numeral-long (suc k) n h =
     let f = numeral-long k (n / 10) (omega arith) in
     rw (numeral-more n (omega arith), length-append) (omega arith)
 
+pub digits-one : (n : ℕ) → n < 10 → 1 ≡ length (numeral n)
+digits-one n h = rw (numeral-one n h)
+
+-- so a number between two powers of ten has as many as the higher
+pub digits-between : (k n : ℕ) → 10 ^ k ≤ n → n < 10 ^ suc k → suc k ≡ length (numeral n)
+digits-between k n l u = let a = numeral-short k n u in let b = numeral-long k n l in omega arith
+
+-- a comparison as a number
+pub above-is : (n m : ℕ) → Above n m (boolByte (ltb m n))
+above-is n m =
+    by-order m n
+    (λ l. let e : ltb m n ≡ true = lt-ltb m n l in rw e (record { yes = λ _. refl; no = λ h. absurd (omega arith); few = omega arith }))
+    (λ l. let e : ltb m n ≡ false = le-ltb m n l in rw e (record { yes = λ h. absurd (omega arith); no = λ _. refl; few = omega arith }))
+
+-- one digit, and one for each power that the number is not below
+powers : ℕ → ℕ → ℕ
+powers n k = tally k (λ j. leb (10 ^ j) n)
+
+all-powers : (n k : ℕ) → 10 ^ k ≤ n → powers n k ≡ k
+unfolding powers tally
+all-powers n zero h = refl
+all-powers n (suc k) h =
+    let p = one-le-pow k 10 (omega arith) in
+    let e : leb (10 ^ suc k) n ≡ true = le-leb (10 ^ suc k) n h in
+    rw e (ap suc (all-powers n k (omega arith)))
+
+digits-powers : (n k : ℕ) → n < 10 ^ suc k → length (numeral n) ≡ 1 + powers n k
+unfolding powers tally
+digits-powers n zero h = rw (numeral-one n h)
+digits-powers n (suc k) h =
+    by-order n (10 ^ suc k)
+    (λ l. let e : leb (10 ^ suc k) n ≡ false = lt-leb (10 ^ suc k) n l in rw e (digits-powers n k l))
+    (λ l. let e = digits-between (suc k) n l h in let a = all-powers n (suc k) l in sym e ∙ omega arith)
+
+-- a comparison with each
+powers-more : {n m r : ℕ} (k t : ℕ) → powers n k ≡ t → 10 ^ suc k ≡ m + 1 → Above n m r → powers n (suc k) ≡ t + r
+unfolding powers tally
+powers-more {n} {m} {r} k t e p a =
+    by-order m n
+    (λ l. let y = a .yes l in let b : leb (10 ^ suc k) n ≡ true = le-leb (10 ^ suc k) n (omega arith) in rw (b, e) (omega arith))
+    (λ l. let y = a .no l in let b : leb (10 ^ suc k) n ≡ false = lt-leb (10 ^ suc k) n (omega arith) in rw (b, e) (omega arith))
+
+pub digits-compared : {n r₁ r₂ r₃ r₄ r₅ r₆ r₇ r₈ r₉ : ℕ} → Above n 9 r₁ → Above n 99 r₂ → Above n 999 r₃ → Above n 9999 r₄ → Above n 99999 r₅ → Above n 999999 r₆ →
+    Above n 9999999 r₇ → Above n 99999999 r₈ → Above n 999999999 r₉ → n < 10 ^ 10 →
+    1 + (r₁ + r₂ + r₃ + r₄) + (r₅ + r₆ + r₇) + (r₈ + r₉) ≡ length (numeral n)
+unfolding powers tally
+digits-compared {n} a b c d e f g h i l =
+    let p₁ = powers-more 0 0 refl refl a in
+    let p₂ = powers-more 1 _ p₁ refl b in
+    let p₃ = powers-more 2 _ p₂ refl c in
+    let p₄ = powers-more 3 _ p₃ refl d in
+    let p₅ = powers-more 4 _ p₄ refl e in
+    let p₆ = powers-more 5 _ p₅ refl f in
+    let p₇ = powers-more 6 _ p₆ refl g in
+    let p₈ = powers-more 7 _ p₇ refl h in
+    let p₉ = powers-more 8 _ p₈ refl i in
+    let z = digits-powers n 9 l in
+    omega arith
+
 -- a loop that counts the digits of n has seen that n reaches the power, 10 to the k
 pub record Reaches (n power k : ℕ) : Type 0 where
   pub is : power ≡ 10 ^ k
@@ -178,11 +241,6 @@ module _ {n : ℕ} where
   reaches-end {power} {k} r h = omega (arith, r .long, numeral-short k n (omega (arith, r .is)))
 
 -- ---- the digits in a number of places
-
--- the last k digits of n, with zeros before them where there are fewer
-abbrev pub padded : ℕ → ℕ → List ℕ
-padded zero n = []
-padded (suc k) n = padded k (n / 10) ++ ((48 + n % 10) ∷ [])
 
 pub length-padded : (k n : ℕ) → length (padded k n) ≡ k
 length-padded zero n = refl

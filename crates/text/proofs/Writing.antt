@@ -8,12 +8,12 @@ use native.Mathlib.Numerals.{add-one}
 use lib.Dec.{leb, ltb}
 use lib.ListN.{length, take, drop, set, getD, length-append, length-drop, length-set, take-append-drop}
 use lib.Seq.{paste, paste-zero, paste-suc, length-take-le, take-suc, take-length, drop-length, take-at, drop-at, drop-drop, set-at}
-use Rattle.laws.proofs.Tests.{flags}
+use Rattle.laws.proofs.Tests.{flags, agree}
 use Rattle.laws.proofs.Cases.{either}
 use Rattle.text.specs.Decimal.{numeral}
 use Rattle.text.specs.Writing.{with-bytes, Writes}
-use Rattle.text.specs.inner.Puts.{Puts}
-use Rattle.text.proofs.Numerals.{padded, length-padded, numeral-padded}
+use Rattle.text.specs.inner.Puts.{Puts, Short, DigitRoom, padded, LastPut}
+use Rattle.text.proofs.Numerals.{length-padded, numeral-padded}
 
 -- ---- a buffer with bytes in it
 
@@ -51,20 +51,32 @@ module _ (l : List ℕ) (i : ℕ) (a : List ℕ) where
 
 -- ---- where there is room for the bytes, and where there is not
 
-pub short-past : (length at count : ℕ) → length < at → true ≡ ltb length (at + count)
-short-past length at count h = let e : ltb length (at + count) ≡ true = omega flags in sym e
+-- the tests for it
+module _ {room at : ℕ} where
+  pub short-past : {count : ℕ} → room < count → Short room at count true
+  short-past {count} h = let e : ltb room (at + count) ≡ true = omega flags in record { is = sym e }
+
+  pub short-here : {count : ℕ} {r : Bool} → count ≤ room → r ≡ ltb (room - count) at → Short room at count r
+  short-here h e = record { is = e ∙ agree _ _ ((λ t. omega flags), λ t. omega flags) }
+
+  module _ {count : ℕ} {r : Bool} (s : Short room at count r) where
+    pub short-yes : r ≡ true → room < at + count
+    short-yes h = let t : ltb room (at + count) ≡ true = sym (s .is) ∙ h in omega flags
+
+    pub short-no : r ≡ false → at + count ≤ room
+    short-no h = let t : ltb room (at + count) ≡ false = sym (s .is) ∙ h in omega flags
+
+    pub digit-room : {l : List ℕ} {n : ℕ} → room ≡ length l → count ≡ length (numeral n) → r ≡ false → DigitRoom l at n count
+    digit-room e c h = record { all = c; room = omega (arith, short-no h) }
 
 writes-all : {l w l′ : List ℕ} {at count : ℕ} → at + length w ≤ length l → l′ ≡ with-bytes l at w → count ≡ length w → Writes l at w l′ count
 writes-all {l} {w} {at} h s c = let e : leb (at + length w) (length l) ≡ true = omega flags in record { stored = rw e s; counted = rw e c; within = omega arith }
 
-pub writes-none : {l w : List ℕ} {at count : ℕ} {short : Bool} → count ≡ length w → short ≡ ltb (length l) (at + count) → short ≡ true → Writes l at w l 0
-writes-none {l} {w} {at} {count} c e h =
-    let t : ltb (length l) (at + count) ≡ true = sym e ∙ h in
+pub writes-none : {l w : List ℕ} {at count : ℕ} {short : Bool} → count ≡ length w → Short (length l) at count short → short ≡ true → Writes l at w l 0
+writes-none {l} {w} {at} c s h =
+    let t = short-yes s h in
     let f : leb (at + length w) (length l) ≡ false = omega flags in
     record { stored = rw f (sym (with-none l at)); counted = rw f; within = omega arith }
-
-has-room : (at count : ℕ) (l w : List ℕ) {short : Bool} → count ≡ length w → short ≡ ltb (length l) (at + count) → short ≡ false → at + length w ≤ length l
-has-room at count l w c e h = let t : ltb (length l) (at + count) ≡ false = sym e ∙ h in omega flags
 
 -- ---- a word: its first i bytes are written
 
@@ -75,8 +87,8 @@ pub record WordPut (l : List ℕ) (at : ℕ) (w l′ : List ℕ) (i : ℕ) : Typ
   pub same : length l′ ≡ length l
 
 module _ {l : List ℕ} {at : ℕ} {w : List ℕ} where
-  pub word-none : {short : Bool} → short ≡ ltb (length l) (at + length w) → short ≡ false → WordPut l at w l 0
-  word-none e h = record { within = omega arith; room = has-room at (length w) l w refl e h; stored = paste-zero l at w; same = refl }
+  pub word-none : {short : Bool} → Short (length l) at (length w) short → short ≡ false → WordPut l at w l 0
+  word-none s h = record { within = omega arith; room = short-no s h; stored = paste-zero l at w; same = refl }
 
   module _ {l′ : List ℕ} {i : ℕ} (p : WordPut l at w l′ i) where
     pub word-more : i < length w → WordPut l at w (set l′ (at + i) (getD w i 0)) (i + 1)
@@ -90,6 +102,43 @@ module _ {l : List ℕ} {at : ℕ} {w : List ℕ} where
     pub word-whole : length w ≤ i → Writes l at w l′ i
     word-whole h = let e : i ≡ length w = omega (arith, p .within) in writes-all (p .room) (p .stored ∙ rw (e, take-length w)) e
 
+-- ---- the last few digits of a number, the first of them stored last
+
+module _ {l : List ℕ} {at n : ℕ} where
+  pub last-one : {d : ℕ} → d ≡ 48 + n % 10 → at + 1 ≤ length l → LastPut l at 1 n (set l at d) 1
+  last-one {d} e h = record {
+    same = length-set l at d;
+    stored = rw e (ap (λ (x : List ℕ). set x at (48 + n % 10)) (sym (with-none l (suc at))) ∙ with-before l at [] (48 + n % 10) (omega arith));
+    counted = refl;
+  }
+
+  last-more : {k count d : ℕ} (q : ℕ) {l′ : List ℕ} → LastPut l (at + 1) k n l′ count → padded (suc k) n ≡ (48 + q % 10) ∷ padded k n → d ≡ 48 + q % 10 → at < length l →
+      LastPut l at (suc k) n (set l′ at d) (suc k)
+  last-more {k} {d} q {l′} p e f h = record {
+    same = length-set l′ at d ∙ p .same;
+    stored = rw (f, p .stored, e, add-one at) (with-before l at (padded k n) (48 + q % 10) h);
+    counted = refl;
+  }
+
+  module _ {count d : ℕ} {l′ : List ℕ} where
+    pub last-two : LastPut l (at + 1) 1 n l′ count → d ≡ 48 + n / 10 % 10 → at + 2 ≤ length l → LastPut l at 2 n (set l′ at d) 2
+    last-two p e h = last-more (n / 10) p refl e (omega arith)
+
+    pub last-three : LastPut l (at + 1) 2 n l′ count → d ≡ 48 + n / 100 % 10 → at + 3 ≤ length l → LastPut l at 3 n (set l′ at d) 3
+    last-three p e h = let z : n / 10 / 10 ≡ n / 100 = omega arith in last-more (n / 100) p (rw z) e (omega arith)
+
+    pub last-four : LastPut l (at + 1) 3 n l′ count → d ≡ 48 + n / 1000 % 10 → at + 4 ≤ length l → LastPut l at 4 n (set l′ at d) 4
+    last-four p e h = let z : n / 10 / 10 / 10 ≡ n / 1000 = omega arith in last-more (n / 1000) p (rw z) e (omega arith)
+
+  pub few-room : {count : ℕ} (k : ℕ) → DigitRoom l at n count → k ≡ length (numeral n) → at + k ≤ length l
+  few-room k d e = omega (arith, d .all, d .room)
+
+  -- and so all of them
+  pub last-all : {count k c : ℕ} {l′ : List ℕ} → DigitRoom l at n count → k ≡ length (numeral n) → LastPut l at k n l′ c → Writes l at (numeral n) l′ c
+  last-all {count} {k} {c} {l′} d z p =
+      let s : padded k n ≡ numeral n = rw z (numeral-padded n) in
+      writes-all (omega (arith, d .all, d .room)) (p .stored ∙ rw s) (p .counted ∙ z)
+
 -- ---- a number: the digits from i on are written, and the i digits before them are the last i of what is left of it
 
 pub record NumberPut (l : List ℕ) (at n : ℕ) (l′ : List ℕ) (rest i : ℕ) : Type 0 where
@@ -100,12 +149,13 @@ pub record NumberPut (l : List ℕ) (at n : ℕ) (l′ : List ℕ) (rest i : ℕ
   pub same : length l′ ≡ length l
 
 module _ {l : List ℕ} {at n : ℕ} where
-  pub number-none : {count : ℕ} {short : Bool} → count ≡ length (numeral n) → short ≡ ltb (length l) (at + count) → short ≡ false → NumberPut l at n l n count
-  number-none {count} c e h =
+  pub number-none : {count : ℕ} → DigitRoom l at n count → NumberPut l at n l n count
+  number-none {count} d =
+      let c = d .all in
       let z : drop count (numeral n) ≡ [] = rw c (drop-length (numeral n)) in
       record {
         within = omega arith;
-        room = has-room at count l (numeral n) c e h;
+        room = omega (arith, d .room);
         left = rw (z, append-nil, c) (numeral-padded n);
         stored = rw z (sym (with-none l (at + count)));
         same = refl;
@@ -127,11 +177,11 @@ module _ {l : List ℕ} {at n : ℕ} where
           same = length-set l′ (at + k) d ∙ p .same;
         }
 
-    pub number-more : 0 < i → NumberPut l at n (set l′ (at + (i - 1)) (48 + rest % 10)) (rest / 10) (i - 1)
-    number-more h = turned (i - 1) (omega arith)
+    pub number-more : {d : ℕ} → 0 < i → d ≡ 48 + rest % 10 → NumberPut l at n (set l′ (at + (i - 1)) d) (rest / 10) (i - 1)
+    number-more h e = rw e (turned (i - 1) (omega arith))
 
-    pub number-whole : {count : ℕ} → count ≡ length (numeral n) → i ≤ 0 → Writes l at (numeral n) l′ count
-    number-whole c h = let z : i ≡ 0 = omega arith in let y : at + 0 ≡ at = omega arith in writes-all (p .room) (p .stored ∙ rw (z, y)) c
+    pub number-whole : {count : ℕ} → DigitRoom l at n count → i ≤ 0 → Writes l at (numeral n) l′ count
+    number-whole d h = let c = d .all in let z : i ≡ 0 = omega arith in let y : at + 0 ≡ at = omega arith in writes-all (p .room) (p .stored ∙ rw (z, y)) c
 
 -- ---- several words and numbers, one after another
 

@@ -4,7 +4,7 @@ use Prim.Native.String.{String}
 use mathlib.Core.Bool.{cond}
 use mathlib.Core.List.{List, [], _∷_}
 use lib.Dec.{eqb}
-use Rattle.text.specs.Patterns.{bytes, fit, capped-fit}
+use Rattle.text.specs.Patterns.{bytes, fill, fit, capped-fit}
 use Rattle.text.specs.declared.Fit.{Fit}
 use Rattle.text.specs.declared.Form.{Form}
 
@@ -27,6 +27,10 @@ other = 1
 abbrev pub plain : ℕ → Form
 plain kind = record { kind = kind; before = 0; number = 0 }
 
+-- a form with a number
+abbrev pub with-number : ℕ → ℕ → Form
+with-number kind n = record { kind = kind; before = 0; number = n }
+
 -- the form of a line that fits, else another
 abbrev pub fitted : ℕ → Fit → Form → Form
 fitted kind f rest = cond (f .fits) (record { kind = kind; before = f .before; number = f .number }) rest
@@ -35,6 +39,15 @@ fitted kind f rest = cond (f .fits) (record { kind = kind; before = f .before; n
 unfoldable pub form : List Row → List ℕ → Form
 form [] l = plain other
 form (r ∷ rs) l = fitted (r .kind) (fit (r .pattern) l) (form rs l)
+
+-- the pattern of a kind; no bytes, where the table has none
+unfoldable pub pattern-of : List Row → ℕ → List ℕ
+pattern-of [] kind = []
+pattern-of (r ∷ rs) kind = cond (eqb (r .kind) kind) (r .pattern) (pattern-of rs kind)
+
+-- the line of a form with one number at most
+abbrev pub spelled : List Row → Form → List ℕ
+spelled rows f = fill (pattern-of rows (f .kind)) (f .number)
 
 -- the form of a line by the rows asked so far, and one row more, its numbers up to a limit
 unfoldable pub row-after : ℕ → ℕ → List ℕ → List ℕ → Form → Form

@@ -1,7 +1,7 @@
 -- A text is its whole lines and a tail. "Lines end in LF", byte 10.
 use Prim.Native.Nat.{ℕ, _+_}
 use mathlib.Core.Bool.{Bool, true, false, cond, _&&_}
-use mathlib.Core.List.{List, [], _∷_}
+use mathlib.Core.List.{List, [], _∷_, _++_}
 use lib.Dec.{ltb, eqb}
 use lib.ListN.{length, take, drop}
 use Rattle.laws.specs.Front.{until}
@@ -21,6 +21,11 @@ lines (b ∷ bs) =
     cond (eqb b 10)
     (record { whole = [] ∷ lines bs .whole; tail = lines bs .tail })
     (onto b (lines bs .whole) (lines bs .tail))
+
+-- lines as a text, each with its line feed
+unfoldable pub ended : List (List ℕ) → List ℕ
+ended [] = []
+ended (l ∷ ls) = l ++ (10 ∷ ended ls)
 
 -- whether a text goes on as a word
 unfoldable pub begins : List ℕ → List ℕ → Bool

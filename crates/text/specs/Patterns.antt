@@ -3,10 +3,10 @@ use Prim.Native.Nat.{ℕ}
 use Prim.Native.String.{String, [] as nothing, _∷_ as _then_}
 use Prim.Native.Char.{code}
 use mathlib.Core.Bool.{true, false, cond}
-use mathlib.Core.List.{List, [], _∷_}
+use mathlib.Core.List.{List, [], _∷_, _++_}
 use mathlib.Core.Option.{Option, none, some}
 use lib.Dec.{eqb}
-use Rattle.text.specs.Decimal.{number, front, behind, up-to}
+use Rattle.text.specs.Decimal.{number, numeral, front, behind, up-to}
 use Rattle.text.specs.declared.Fit.{Fit}
 
 -- the bytes of a quoted text
@@ -17,6 +17,11 @@ bytes (c then s) = code c ∷ bytes s
 -- `#`
 abbrev pub any-number : ℕ
 any-number = 35
+
+-- a line as a pattern writes it: the digits of the number stand for `#`
+unfoldable pub fill : List ℕ → ℕ → List ℕ
+fill [] n = []
+fill (p ∷ ps) n = cond (eqb p any-number) (numeral n ++ fill ps n) (p ∷ fill ps n)
 
 -- a line that fits a pattern has its last number and the one before it, 0 where there is none; or it does not fit
 abbrev pub fitting : ℕ → ℕ → Fit

@@ -1,26 +1,17 @@
--- `digit_count` meets its contract: after k turns the power is 10 to the k, and the number has more than k digits.
-use Prim.Native.Nat.{_-_}
+-- `digit_count` meets its contract: a number between two powers of ten.
 use borrow.Author.Needs.{needs}
-use Rattle.text.proofs.Numerals.{Reaches, reaches-one, reaches-more, reaches-end}
+use native.Mathlib.Omega.{arith}
+use Rattle.text.proofs.Numerals.{digits-one, digits-between}
 use Rattle.text.proofs.put.digit_count.Statement.{statement}
 use Rattle.text.proofs.put.digit_count.Tie as tie
-
-abbrev Inv-loop : tie.InvT-loop
-Inv-loop n front power₀ k₀ power k = Reaches n power k
-
-abbrev μ-loop : tie.MeasureT-loop
-μ-loop n front power₀ k₀ power k = n - power
 
 pub digit-count-spec : {M : Type 1} → statement M
 digit-count-spec =
     tie.close
     (tie.spec
-    Inv-loop
-    μ-loop
-    (λ c. search (needs, reaches-one))
-    (λ c. search needs)
-    (λ c. search needs)
-    (λ c. search needs)
-    (λ c. search (needs, reaches-more))
-    (λ c. search needs)
-    (λ c. search (needs, reaches-end)))
+    (λ c. digits-one _ (omega arith))
+    (λ c. digits-between 1 _ (omega arith) (omega arith))
+    (λ c. digits-between 2 _ (omega arith) (omega arith))
+    (λ c. digits-between 3 _ (omega arith) (omega arith))
+    (λ c κs. search needs)
+    (λ c. search needs))

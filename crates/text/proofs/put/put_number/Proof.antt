@@ -1,32 +1,17 @@
--- `put_number` meets its contract: the digits from i on are stored, and those before them are the last i of `rest`.
+-- `put_number` meets its contract: its digits are written where there is room for all of them.
 use borrow.Author.Needs.{needs}
 use Rattle.text.proofs.Numerals.{numeral-form}
-use Rattle.text.proofs.Writing.{writes-none, NumberPut, number-none, number-more, number-whole}
+use Rattle.text.proofs.Writing.{writes-none, digit-room}
 use Rattle.text.proofs.put.put_number.Statement.{statement}
 use Rattle.text.proofs.put.put_number.Tie as tie
-
-abbrev Inv-loop : tie.InvT-loop
-Inv-loop out₀ at n count rest₀ i₀ out rest i = NumberPut out₀ at n out rest i
-
-abbrev μ-loop : tie.MeasureT-loop
-μ-loop out₀ at n count rest₀ i₀ out rest i = i
 
 pub put-number-spec : {M : Type 1} → statement M
 put-number-spec =
     tie.close
     (tie.spec
-    Inv-loop
-    μ-loop
     (λ c κs. search needs)
     (λ c κs. search needs)
     (λ c. (search (needs, writes-none), numeral-form _))
-    (λ c. search (needs, number-none))
+    (λ c κs. search (needs, digit-room))
     (λ c. search needs)
-    (λ c. search needs)
-    (λ c. search needs)
-    (λ c. search needs)
-    (λ c. search needs)
-    (λ c. search needs)
-    (λ c. search (needs, number-more))
-    (λ c. search needs)
-    (λ c. (search (needs, number-whole), numeral-form _)))
+    (λ c. (search needs, numeral-form _)))
