@@ -37,16 +37,17 @@ room-within P I = record { devices = omega arith; terms = omega arith; postings 
 
 -- ---- what a line that is not refused has passed
 
-record Passed (r : Room) (m : State) (f : Form) : Type 0 where
-  unclosed : is closed m ≡ false
-  finished : eqb (f .kind) unfinished ≡ false
-  here : stands (m .stage) (m .opened) (f .kind) ≡ true
-  in-range : out-of-range m f ≡ false
-  place : no-place r m f ≡ false
-  rising : not-rising m f ≡ false
-  single : is-redundant m f ≡ false
+pub record Passed (r : Room) (m : State) (f : Form) : Type 0 where
+  pub unclosed : is closed m ≡ false
+  pub finished : eqb (f .kind) unfinished ≡ false
+  pub here : stands (m .stage) (m .opened) (f .kind) ≡ true
+  pub in-range : out-of-range m f ≡ false
+  pub shallow : too-deep m f ≡ false
+  pub place : no-place r m f ≡ false
+  pub rising : not-rising m f ≡ false
+  pub single : is-redundant m f ≡ false
 
-passed : (r : Room) (m : State) (f : Form) → line-refusal r m f ≡ 0 → Passed r m f
+pub passed : (r : Room) (m : State) (f : Form) → line-refusal r m f ≡ 0 → Passed r m f
 unfolding line-refusal
 passed r m f h =
     let r25 = pick-none (is closed m) 24 _ h in
@@ -63,6 +64,7 @@ passed r m f h =
       finished = r24 .0;
       here = not-no (stands (m .stage) (m .opened) (f .kind)) .0 (r21 .0);
       in-range = r22 .0;
+      shallow = r23 .0;
       place = r27 .0;
       rising = r28 .0;
       single = r29 .0;
@@ -164,7 +166,7 @@ module _ (r : Room) (w : Within r) where
 
 -- ---- line by line
 
-not-made : {X : Type 0} (x k : ℕ) (m : State) → no x k ≡ made m → X
+pub not-made : {X : Type 0} (x k : ℕ) (m : State) → no x k ≡ made m → X
 not-made x k m h = absurd (true≢false (sym (ap is-made h)))
   where
     is-made : Read State → Bool
@@ -172,7 +174,7 @@ not-made x k m h = absurd (true≢false (sym (ap is-made h)))
     is-made (no x k) = false
 
 -- what is made by a line that may be refused
-unless-made : (x : ℕ) (s : State) (k : ℕ) (f : State → Read State) (m : State) → and-then (unless x s) k f ≡ made m → (x ≡ 0) × (f s ≡ made m)
+pub unless-made : (x : ℕ) (s : State) (k : ℕ) (f : State → Read State) (m : State) → and-then (unless x s) k f ≡ made m → (x ≡ 0) × (f s ≡ made m)
 unless-made zero s k f m h = (refl, h)
 unless-made (suc x) s k f m h = not-made (suc x) k m h
 

@@ -24,19 +24,19 @@ use Rattle.plant_text.specs.declared.common.Start.{Start}
 
 -- the form of a line, by the word that begins it: no other row fits
 module _ (l : List ℕ) where
-  form-dev : form rows (bytes "(dev " ++ l) ≡ fitted device-line (fit (bytes "(dev #") (bytes "(dev " ++ l)) (plain other)
+  pub form-dev : form rows (bytes "(dev " ++ l) ≡ fitted device-line (fit (bytes "(dev #") (bytes "(dev " ++ l)) (plain other)
   unfolding form bytes fit-after
   form-dev = refl
 
-  form-mark : form rows (bytes "(mark " ++ l) ≡ fitted term-line (fit (bytes "(mark #") (bytes "(mark " ++ l)) (plain other)
+  pub form-mark : form rows (bytes "(mark " ++ l) ≡ fitted term-line (fit (bytes "(mark #") (bytes "(mark " ++ l)) (plain other)
   unfolding form bytes fit-after
   form-mark = refl
 
-  form-own : form rows (bytes "(own " ++ l) ≡ fitted own-line (fit (bytes "(own #)") (bytes "(own " ++ l)) (plain other)
+  pub form-own : form rows (bytes "(own " ++ l) ≡ fitted own-line (fit (bytes "(own #)") (bytes "(own " ++ l)) (plain other)
   unfolding form bytes fit-after
   form-own = refl
 
-  form-all : form rows (bytes "(all " ++ l) ≡ fitted all-line (fit (bytes "(all #)") (bytes "(all " ++ l)) (plain other)
+  pub form-all : form rows (bytes "(all " ++ l) ≡ fitted all-line (fit (bytes "(all #)") (bytes "(all " ++ l)) (plain other)
   unfolding form bytes fit-after
   form-all = refl
 

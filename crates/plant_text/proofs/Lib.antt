@@ -1,9 +1,9 @@
 -- Laws of plant text.
-mod Lexing
+pub mod Lexing
 mod Reading
 mod Nesting
 mod Clearing
 mod Posts
 mod Index
 mod Whole
-mod Example
+pub mod Example

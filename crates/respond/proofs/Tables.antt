@@ -1,47 +1,24 @@
 -- The tables that a plant text makes, cut to the numbers of devices, terms and postings that the reader answers.
 use Prim.Native.Nat.{ℕ, _≤_}
-use mathlib.Core.Path.{_≡_, refl, sym, ap}
+use mathlib.Core.Path.{_≡_, ap}
 use mathlib.Core.List.{List}
 use native.Mathlib.Omega.{arith}
-use lib.ListN.{length, take, length-append}
-use lib.Seq.{take-at}
-use Rattle.plant.specs.Plant.{plant, size}
+use lib.ListN.{length, take}
+use Rattle.plant.specs.Plant.{plant}
 use Rattle.plant.proofs.Forest as plants
-use Rattle.index.specs.Index.{index, count}
+use Rattle.index.specs.Index.{index}
 use Rattle.index.proofs.Accepted as indexes
-use Rattle.text.specs.Reading.{Read, made, no}
+use Rattle.text.specs.Reading.{made}
 use Rattle.plant_text.specs.declared.Room.{Room}
 use Rattle.plant_text.specs.declared.Outcome.the-variants as outcome
 use Rattle.plant_text.specs.PlantText.{State, read-plant, outcome-of, kept, filled}
 use Rattle.accepted_text.proofs.Accepted.{Within, passes}
+use Rattle.accepted_text.proofs.Made.{is-made, cut, fits}
 use Rattle.respond.specs.Respond.{program-room}
 
 -- the program lends no more than a plant and an index may have
 pub program-within : Within program-room
 program-within = record { devices = omega arith; terms = omega arith; postings = omega arith }
-
--- what the reader answers for a text that it accepts, or refuses
-pub record IsMade (X : Read State) (d t p : ℕ) : Type 0 where
-  pub state : State
-  pub is : X ≡ made state
-  pub devices : d ≡ size (state .plant)
-  pub terms : t ≡ count (state .index)
-  pub postings : p ≡ length (state .index .postings)
-
-pub is-made : (X : Read State) (d t p : ℕ) → outcome.Made d t p ≡ outcome-of X → IsMade X d t p
-is-made (made m) d t p e = record { state = m; is = refl; devices = cc; terms = cc; postings = cc }
-is-made (no n k) d t p e = let z : _≡_ {A = ℕ} 0 1 = cc in absurd (omega arith)
-
-pub is-refused : (X : Read State) (n k : ℕ) → outcome.Refused n k ≡ outcome-of X → X ≡ no n k
-is-refused (made m) n k e = let z : _≡_ {A = ℕ} 0 1 = cc in absurd (omega arith)
-is-refused (no x y) n k e = cc
-
--- a table that was filled, cut to the entries that were put there
-cut : (l table : List ℕ) (n k : ℕ) → table ≡ filled n l → k ≡ length l → take k table ≡ l
-cut l table n k e h = rw e (take-at l _ k (sym h))
-
-fits : (l table : List ℕ) (n k : ℕ) → table ≡ filled n l → k ≡ length l → k ≤ length table
-fits l table n k e h = rw (e, length-append) (omega (arith, h))
 
 -- what a read leaves in tables of zeros, and the cut tables
 pub record Tables (r : Room) (text : List ℕ) (d t p : ℕ) (last root level terms starts postings : List ℕ) : Type 0 where

@@ -9,7 +9,8 @@ use lib.ListN.{length-take}
 use Rattle.plant_text.specs.PlantText.{read-plant}
 use Rattle.respond.specs.Lines.{word-plant}
 use Rattle.respond.specs.Respond.{program-room}
-use Rattle.respond.proofs.Tables.{Tables, program-within, tables, is-refused}
+use Rattle.accepted_text.proofs.Made.{is-refused}
+use Rattle.respond.proofs.Tables.{Tables, program-within, tables}
 use Rattle.respond.proofs.Listing.{numbered₂-short}
 use Rattle.respond.proofs.Parts.{plant-refused, plant-read, responds}
 
