@@ -68,6 +68,24 @@ uint32_t plant_search_read_plant(
     uint32_t *postings, size_t postings_length,
     size_t numbers[4]);
 
+/* Writes plant text from six tables: the lowest of refusals 1 to 9, 36 and 40 that applies, or 0. The tables are checked in
+ * each call.
+ *
+ * text: the buffer. The text is written to its front; bytes past it keep what they hold, and after a refusal all do.
+ * numbers: the length of the text, or 0 after a refusal.
+ * 36: a device lies in more than 32 branches, its own among them. 40: the text is longer than the buffer, or than 65,536 bytes.
+ * A text so written is read back as the same entries. Tables that a text was read into, handed over with the numbers of
+ * devices, terms and postings as their lengths, are written as that text again. */
+uint32_t plant_search_write_plant(
+    const uint16_t *last, size_t last_length,
+    const uint16_t *root, size_t root_length,
+    const uint8_t *level, size_t level_length,
+    const uint16_t *terms, size_t terms_length,
+    const uint32_t *starts, size_t starts_length,
+    const uint32_t *postings, size_t postings_length,
+    uint8_t *text, size_t text_length,
+    size_t numbers[1]);
+
 /* Reads ask text: the refusal, 30 to 35, or 0.
  *
  * required, forbidden: the terms, then zeros.

@@ -1,7 +1,8 @@
 -- What is handed back.
 use mathlib.Core.Path.{_≡_, ap, _∙_}
-use mathlib.Core.List.{List}
+use mathlib.Core.List.{List, [], _∷_}
 use Prim.Native.Nat.{ℕ}
+use lib.ListN.{length}
 use Rattle.plant.specs.Plant.{Plant}
 use Rattle.index.specs.Index.{Index}
 use Rattle.query.specs.declared.Query.{Query}
@@ -9,8 +10,12 @@ use Rattle.search.specs.Promises.{Searched}
 use Rattle.search.specs.declared.Answer.{Answer}
 use Rattle.plant_text.specs.PlantText.{outcome-number, outcome-after, plant-after, index-after}
 use Rattle.plant_text.specs.declared.Outcome.{Outcome}
+use Rattle.written_text.specs.Refusals.{write-refusal}
+use Rattle.written_text.specs.RoundTrip.{RoundTrips}
+use Rattle.plant_writer.specs.Write.{text-after, written-number, written-length, length-of}
+use Rattle.plant_writer.specs.declared.Written.{Written}
 use Rattle.c_api.specs.Handing.{numbers-of, outcome-numbers}
-use Rattle.c_api.specs.Interface.{SearchHanded, PlantHanded}
+use Rattle.c_api.specs.Interface.{SearchHanded, PlantHanded, TextHanded}
 
 -- a search of the query that was handed over is a search of the same query, built anew
 pub search-handed : {P : Plant} {I : Index} {q Q : Query} {out out′ : List ℕ} {a : Answer} → q ≡ Q → Searched P I q out out′ a
@@ -29,3 +34,7 @@ module _ {text : List ℕ} {P P′ : Plant} {I I′ : Index} {o : Outcome} where
       → {four : List ℕ} → four ≡ outcome-numbers o → {r : ℕ} → r ≡ outcome-number o → PlantHanded text P I P′ I′ four r
   plant-handed e p i f g =
       record { refusal = g ∙ ap outcome-number e; numbers = f ∙ ap outcome-numbers e; plant = p; index = i }
+
+pub text-handed : {P : Plant} {I : Index} {text text′ : List ℕ} (w : Written) {n r : ℕ} → text′ ≡ text-after P I text → written-number w ≡ write-refusal P I (length text) →
+    written-length w ≡ length-of P I (length text) → RoundTrips P I (length text) → n ≡ written-length w → r ≡ written-number w → TextHanded P I text text′ (n ∷ []) r
+text-handed w {n} e p l t q s = record { refusal = s ∙ p; numbers = ap (λ (x : ℕ). x ∷ []) (q ∙ l); written = e; trips = t }

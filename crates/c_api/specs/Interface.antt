@@ -1,7 +1,7 @@
 -- What to believe of the functions for C that give several things back.
 use Prim.Native.Nat.{ℕ}
 use mathlib.Core.Path.{_≡_}
-use mathlib.Core.List.{List}
+use mathlib.Core.List.{List, [], _∷_}
 use lib.ListN.{length, take, getD}
 use Rattle.plant.specs.Plant.{Plant}
 use Rattle.index.specs.Index.{Index}
@@ -9,6 +9,9 @@ use Rattle.query.specs.declared.Query.{Query}
 use Rattle.search.specs.Answer.{answer, answer-list}
 use Rattle.search.specs.Promises.{Promised}
 use Rattle.plant_text.specs.PlantText.{outcome-number, outcome-after, plant-after, index-after}
+use Rattle.written_text.specs.Refusals.{write-refusal}
+use Rattle.written_text.specs.RoundTrip.{RoundTrips}
+use Rattle.plant_writer.specs.Write.{text-after, length-of}
 use Rattle.c_api.specs.Handing.{numbers-of, outcome-numbers}
 
 -- `plant_search_search`: the refusal r, the three numbers beside it and the answer list, which was `out`
@@ -24,3 +27,10 @@ pub record PlantHanded (text : List ℕ) (P : Plant) (I : Index) (P′ : Plant) 
   pub numbers : four ≡ outcome-numbers (outcome-after text P I)
   pub plant : P′ ≡ plant-after text P I
   pub index : I′ ≡ index-after text P I
+
+-- `plant_search_write_plant`: the refusal r, the number beside it and the buffer, which was `text`
+pub record TextHanded (P : Plant) (I : Index) (text text′ one : List ℕ) (r : ℕ) : Type 0 where
+  pub refusal : r ≡ write-refusal P I (length text)
+  pub numbers : one ≡ length-of P I (length text) ∷ []
+  pub written : text′ ≡ text-after P I text
+  pub trips : RoundTrips P I (length text)

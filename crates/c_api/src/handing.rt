@@ -1,9 +1,11 @@
-// A query as it is handed over.
+// A query as it is handed over, and outcomes as they are handed back.
 ghost use mathlib.Core.Path.{_≡_};
 ghost use Rattle.c_api.specs.Handing.{levels-of, query-of, level-numbers, query-numbers, outcome-numbers};
 ghost use Rattle.plant_text.specs.PlantText.{outcome-number};
+ghost use Rattle.plant_writer.specs.Write.{written-number, written-length};
 use integers::u32_to_usize;
 use plant_text::Outcome;
+use plant_writer::Written;
 use query::Levels;
 use query::Query;
 use query::terms_of;
@@ -90,5 +92,25 @@ pub fn outcome_numbers(outcome: Outcome) -> [usize; 4]
     match outcome {
         Outcome::Made(devices, terms, postings) => [0, devices, terms, postings],
         Outcome::Refused(_, line) => [u32_to_usize(line), 0, 0, 0],
+    }
+}
+
+// The refusal of tables that were to be written, or 0.
+pub fn written_refusal(written: Written) -> u32
+    ensures { λ r. ⌜ r ≡ written-number written ⌝ }
+{
+    match written {
+        Written::Made(_) => 0,
+        Written::Refused(refusal) => refusal,
+    }
+}
+
+// The length of the text that was written, or 0.
+pub fn written_length(written: Written) -> usize
+    ensures { λ r. ⌜ r ≡ written-length written ⌝ }
+{
+    match written {
+        Written::Made(length) => length,
+        Written::Refused(_) => 0,
     }
 }

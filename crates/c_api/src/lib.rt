@@ -7,11 +7,13 @@ ghost use Rattle.index.specs.Index.{index};
 ghost use Rattle.query_text.specs.QueryText.{read-query};
 ghost use Rattle.respond.specs.Respond.{Responds};
 ghost use Rattle.c_api.specs.Handing.{levels-of, query-of, query-numbers};
-ghost use Rattle.c_api.specs.Interface.{SearchHanded, PlantHanded};
+ghost use Rattle.c_api.specs.Interface.{SearchHanded, PlantHanded, TextHanded};
 use handing::outcome_numbers;
 use handing::outcome_refusal;
 use handing::query_numbers;
 use handing::query_of;
+use handing::written_length;
+use handing::written_refusal;
 
 mod handing;
 
@@ -87,6 +89,29 @@ pub extern "C" fn plant_search_read_plant(
     let outcome = plant_text::read(text, last, root, level, terms, starts, postings);
     *numbers = outcome_numbers(outcome);
     outcome_refusal(outcome)
+}
+
+// Writes the text of the tables to the front of `text`: the refusal, and in `numbers` the length written. What is behind it stays, and so does all
+// where the text is refused.
+#[no_mangle]
+pub extern "C" fn plant_search_write_plant(
+    last: &[u16],
+    root: &[u16],
+    level: &[u8],
+    terms: &[u16],
+    starts: &[u32],
+    postings: &[u32],
+    text: &mut [u8],
+    numbers: &mut [usize; 1],
+) -> u32
+    ensures { λ r. ⌜ TextHanded
+        (plant (now (last .entry)) (now (root .entry)) (now (level .entry)))
+        (index (now (terms .entry)) (now (starts .entry)) (now (postings .entry)))
+        (now (text .entry)) (now (text .exit)) (now (numbers .exit)) r ⌝ }
+{
+    let written = plant_writer::write(last, root, level, terms, starts, postings, text);
+    *numbers = [written_length(written)];
+    written_refusal(written)
 }
 
 // Reads query text: the refusal, the terms in eight places each, and the other numbers of the query. A refusal gives the empty query.
