@@ -10,6 +10,8 @@ pub enum Case {
     Search(Tables, Query, Vec<u16>),
     /// A text, and the lengths of the six tables lent.
     Plant(Vec<u8>, [usize; 6]),
+    /// Tables, and the buffer as lent.
+    Write(Tables, Vec<u8>),
     Query(Vec<u8>),
     Respond(Vec<u8>, Vec<u8>),
 }
@@ -21,6 +23,8 @@ pub enum Outcome {
     Answer(Answer, Vec<u16>),
     /// The refusal, then line, devices, terms and postings; the tables whole.
     Plant(u32, [usize; 4], Tables),
+    /// The refusal, the length of the text, and the buffer whole.
+    Written(u32, usize, Vec<u8>),
     Query(ReadQuery),
     /// How many bytes are the response, and the lent array whole.
     Bytes(usize, Vec<u8>),
@@ -38,8 +42,19 @@ pub fn lent(room: [usize; 6]) -> Tables {
     }
 }
 
+/// Tables of these lengths: entries past a new end are gone, and new ones are 0.
+fn resized(mut t: Tables, room: [usize; 6]) -> Tables {
+    t.last.resize(room[0], 0);
+    t.root.resize(room[1], 0);
+    t.level.resize(room[2], 0);
+    t.terms.resize(room[3], 0);
+    t.starts.resize(room[4], 0);
+    t.postings.resize(room[5], 0);
+    t
+}
+
 impl Case {
-    /// What document 01 says.
+    /// What the papers say.
     pub fn expected(&self) -> Outcome {
         match self {
             Case::Check(t) => Outcome::Number(t.check()),
@@ -48,6 +63,11 @@ impl Case {
                 Outcome::Answer(t.search(q, &mut answer), answer)
             }
             Case::Plant(text, room) => plant_outcome(paper::read_plant(text, *room), *room),
+            Case::Write(t, buffer) => {
+                let mut buffer = buffer.clone();
+                let (refusal, length) = t.write(&mut buffer);
+                Outcome::Written(refusal, length, buffer)
+            }
             Case::Query(text) => query_outcome(paper::read_query(text)),
             Case::Respond(plant, query) => {
                 let mut out = paper::respond(plant, query);
@@ -61,7 +81,7 @@ impl Case {
     /// The refusal numbers that an outcome shows.
     pub fn refusal(outcome: &Outcome) -> u32 {
         match outcome {
-            Outcome::Number(n) | Outcome::Plant(n, ..) => *n,
+            Outcome::Number(n) | Outcome::Plant(n, ..) | Outcome::Written(n, ..) => *n,
             Outcome::Answer(answer, _) => answer.refusal,
             Outcome::Query(read) => read.refusal,
             Outcome::Bytes(length, bytes) => {
@@ -76,9 +96,38 @@ impl Case {
     pub fn difference(&self, expected: &Outcome, subject: &dyn Subject) -> Option<String> {
         let got = subject.outcome(self);
         if *expected != got {
-            return Some(format!("document 01: {}\nthe call:    {}", short(expected), short(&got)));
+            return Some(format!("the papers: {}\nthe call:   {}", short(expected), short(&got)));
         }
-        self.against_slow(expected).map(|what| format!("against the slow evaluator: {what}"))
+        let slow = self.against_slow(expected).map(|what| format!("against the slow evaluator: {what}"));
+        slow.or_else(|| self.way_back(&got).iter().find_map(|(back, same)| back.changed(same, subject)))
+    }
+
+    /// How what comes back differs from the same, if it does.
+    fn changed(&self, same: &Outcome, subject: &dyn Subject) -> Option<String> {
+        let got = subject.outcome(self);
+        (*same != got).then(|| format!("and back: {self}\nthe same: {}\nthe call: {}", short(same), short(&got)))
+    }
+
+    /// What was written is read, and what was read is written, with just enough room and with more: the same comes back.
+    fn way_back(&self, outcome: &Outcome) -> Vec<(Case, Outcome)> {
+        match (self, outcome) {
+            (Case::Write(t, _), Outcome::Written(0, length, bytes)) => {
+                let read = |spare: usize| {
+                    let room = t.lengths().map(|n| n + spare);
+                    (Case::Plant(bytes[..*length].to_vec(), room), plant_outcome(Ok(t.clone()), room))
+                };
+                [0, 3].map(read).into()
+            }
+            (Case::Plant(text, _), Outcome::Plant(0, [_, n, terms, postings], t)) => {
+                let t = resized(t.clone(), [*n, *n, *n, *terms, *terms, *postings]);
+                let written = |spare: usize| {
+                    let same = [text.as_slice(), &vec![b'.'; spare]].concat();
+                    (Case::Write(t.clone(), vec![b'.'; same.len()]), Outcome::Written(0, text.len(), same))
+                };
+                [0, 3].map(written).into()
+            }
+            _ => vec![],
+        }
     }
 
     /// Small cases are held to the slow evaluator too.
@@ -97,23 +146,21 @@ impl Case {
                 }
                 slow::broken(t, q, *got, listing, unlimited).map(str::to_string)
             }
+            (Case::Write(t, _), Outcome::Written(0 | 36 | 40, ..)) if t.size() <= 130 => {
+                let deep = slow::too_deep(t);
+                (deep != (Case::refusal(outcome) == 36)).then(|| format!("more than 32 tiers: {deep}"))
+            }
             _ => None,
         }
     }
 }
 
 fn plant_outcome(read: Result<Tables, Refused>, room: [usize; 6]) -> Outcome {
-    let (refusal, numbers, mut t) = match read {
+    let (refusal, numbers, t) = match read {
         Ok(t) => (0, [0, t.last.len(), t.terms.len(), t.postings.len()], t),
         Err((number, line)) => (number, [line as usize, 0, 0, 0], Tables::default()),
     };
-    t.last.resize(room[0], 0);
-    t.root.resize(room[1], 0);
-    t.level.resize(room[2], 0);
-    t.terms.resize(room[3], 0);
-    t.starts.resize(room[4], 0);
-    t.postings.resize(room[5], 0);
-    Outcome::Plant(refusal, numbers, t)
+    Outcome::Plant(refusal, numbers, resized(t, room))
 }
 
 /// A query in the shape in which it is handed out: unused places hold 0, and a refusal comes with an empty query.
@@ -147,6 +194,9 @@ pub fn short(outcome: &Outcome) -> String {
         Outcome::Bytes(length, bytes) => {
             format!("{length} bytes: {:?}", String::from_utf8_lossy(&bytes[..*length.min(&bytes.len())]))
         }
+        Outcome::Written(refusal, length, bytes) => {
+            format!("refusal {refusal}, {length} bytes, the buffer {:?}", String::from_utf8_lossy(bytes))
+        }
         other => format!("{other:?}"),
     };
     if text.len() > 600 {
@@ -162,6 +212,7 @@ impl std::fmt::Display for Case {
             Case::Check(t) => write!(f, "check of {t:?}"),
             Case::Search(t, q, answer) => write!(f, "search in {t:?}\n{q:?}\nanswer list {answer:?}"),
             Case::Plant(bytes, room) => write!(f, "plant text {:?}\ntables of {room:?}", text(bytes)),
+            Case::Write(t, buffer) => write!(f, "writing of {t:?}\ninto {:?}", text(buffer)),
             Case::Query(bytes) => write!(f, "query text {:?}", text(bytes)),
             Case::Respond(plant, query) => write!(f, "respond to {:?}\nand {:?}", text(plant), text(query)),
         }

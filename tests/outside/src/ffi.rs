@@ -21,6 +21,12 @@ extern "C" {
         postings_len: usize, numbers: *mut [usize; 4],
     ) -> u32;
 
+    fn plant_search_write_plant(
+        last: *const u16, last_len: usize, root: *const u16, root_len: usize, level: *const u8, level_len: usize,
+        terms: *const u16, terms_len: usize, starts: *const u32, starts_len: usize, postings: *const u32, postings_len: usize,
+        text: *mut u8, text_len: usize, numbers: *mut [usize; 1],
+    ) -> u32;
+
     fn plant_search_read_query(
         text: *const u8, text_len: usize, required: *mut [u32; 8], forbidden: *mut [u32; 8], numbers: *mut [usize; 8],
     ) -> u32;
@@ -107,6 +113,31 @@ pub fn read_plant(text: &[u8], t: &mut Tables) -> (u32, [usize; 4]) {
         )
     };
     (refusal, numbers)
+}
+
+/// The refusal, and the length of the text, at the front of what is lent.
+pub fn write_plant(t: &Tables, text: &mut [u8]) -> (u32, usize) {
+    let mut numbers = [usize::MAX; 1];
+    let refusal = unsafe {
+        plant_search_write_plant(
+            t.last.as_ptr(),
+            t.last.len(),
+            t.root.as_ptr(),
+            t.root.len(),
+            t.level.as_ptr(),
+            t.level.len(),
+            t.terms.as_ptr(),
+            t.terms.len(),
+            t.starts.as_ptr(),
+            t.starts.len(),
+            t.postings.as_ptr(),
+            t.postings.len(),
+            text.as_mut_ptr(),
+            text.len(),
+            &mut numbers,
+        )
+    };
+    (refusal, numbers[0])
 }
 
 /// A query as read: the refusal, the two lists of terms, and line, counts, whether a range is set, low, high, start, budget.

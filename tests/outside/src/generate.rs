@@ -258,29 +258,6 @@ fn room_for(r: &mut Random, n: usize) -> usize {
     }
 }
 
-pub fn plant_text(t: &Tables) -> Vec<u8> {
-    let mut out = String::from("(plant\n");
-    let mut open: Vec<u16> = vec![];
-    for (i, &last) in t.last.iter().enumerate() {
-        while open.last().is_some_and(|&e| (e as usize) < i + 1) {
-            open.pop();
-            out += ")\n";
-        }
-        out += &format!("(dev {}\n", t.level[i]);
-        open.push(last);
-    }
-    out += &")\n".repeat(open.len());
-    for (k, term) in t.terms.iter().enumerate() {
-        out += &format!("(mark {term}\n");
-        let end = t.starts.get(k + 1).map_or(t.postings.len(), |&s| s as usize);
-        for &q in &t.postings[t.starts[k] as usize..end] {
-            out += &format!("({} {})\n", if q % 2 == 1 { "all" } else { "own" }, q / 2);
-        }
-        out += ")\n";
-    }
-    (out + ")\n").into_bytes()
-}
-
 pub fn query_text(q: &Query) -> Vec<u8> {
     let mut out = String::from("(ask\n");
     for term in &q.required {
@@ -384,7 +361,7 @@ fn small_plant(r: &mut Random) -> Tables {
 }
 
 fn some_plant_text(r: &mut Random, t: &Tables) -> Vec<u8> {
-    let mut text = plant_text(t);
+    let mut text = t.text();
     if r.one_in(2) {
         spoil(r, &mut text);
     }
@@ -422,16 +399,60 @@ fn some_query_text(r: &mut Random, t: &Tables) -> Vec<u8> {
 
 /// The length of each table that a plant text is read into.
 fn rooms(r: &mut Random, t: &Tables) -> [usize; 6] {
-    let used = [t.last.len(), t.last.len(), t.last.len(), t.terms.len(), t.terms.len(), t.postings.len()];
     if r.one_in(4) {
-        used.map(|n| if r.one_in(5) { r.below(n + 1) } else { n })
+        t.lengths().map(|n| if r.one_in(5) { r.below(n + 1) } else { n })
     } else {
-        used.map(|n| n + r.below(4))
+        t.lengths().map(|n| n + r.below(4))
     }
 }
 
+/// Adds devices at the end, each a tree of its own, until the text has this length, which is at least 72 more than it has.
+fn lengthen(t: &mut Tables, length: usize) {
+    let left = length - t.text().len();
+    for k in 0..left / 9 {
+        let d = t.size() as u16 + 1;
+        t.last.push(d);
+        t.root.push(d);
+        t.level.push(if k < left % 9 { 10 } else { 9 });
+    }
+}
+
+/// A plant with a text about as long as a text may be.
+fn long_plant(r: &mut Random) -> Tables {
+    let (n, depth, terms) = (r.below(1_025), r.of(&[3, 32, 33]), r.below(200));
+    let mut t = forest(r, n, depth);
+    index(r, &mut t, terms, 4_096);
+    let near = r.between(65_000, 66_000);
+    lengthen(&mut t, r.of(&[65_535, 65_536, 65_536, 65_537, near]));
+    t
+}
+
+/// Tables to write.
+fn some_tables(r: &mut Random) -> Tables {
+    match r.below(400) {
+        0 => long_plant(r),
+        1..200 => small_plant(r),
+        _ => tables(r),
+    }
+}
+
+/// A buffer of about the length of the text, with anything in it.
+fn buffer(r: &mut Random, t: &Tables) -> Vec<u8> {
+    let length = if t.check() == 0 { t.text().len().min(1_000_000) } else { r.below(200) };
+    let room = match r.below(40) {
+        0..6 => length.saturating_sub(1),
+        6..9 => 0,
+        9..12 => r.below(length + 1),
+        12..16 => length + 1,
+        16..22 => length + r.below(300),
+        22 => 65_536,
+        _ => length,
+    };
+    (0..room).map(|_| r.next() as u8).collect()
+}
+
 pub fn case(r: &mut Random) -> Case {
-    match r.below(20) {
+    match r.below(24) {
         0..4 => Case::Check(tables(r)),
         4..10 => {
             let t = tables(r);
@@ -449,9 +470,14 @@ pub fn case(r: &mut Random) -> Case {
             let t = small_plant(r);
             Case::Query(some_query_text(r, &t))
         }
+        17..21 => {
+            let t = some_tables(r);
+            let buffer = buffer(r, &t);
+            Case::Write(t, buffer)
+        }
         _ => {
             let t = small_plant(r);
-            let plant = if r.one_in(2) { plant_text(&t) } else { some_plant_text(r, &t) };
+            let plant = if r.one_in(2) { t.text() } else { some_plant_text(r, &t) };
             Case::Respond(plant, some_query_text(r, &t))
         }
     }
@@ -462,7 +488,7 @@ pub const P: &[u8] = b"(plant\n(dev 120\n(dev 118\n(dev 255\n)\n)\n(dev 121\n(de
 (mark 7\n(all 2)\n(own 5)\n)\n(mark 9\n(all 4)\n)\n)\n";
 
 /// Cases without chance: each way to damage P in one place, P's text and an ask cut and changed at every byte, every small
-/// query over P, tables of lengths 0 and 1.
+/// query over P, tables of lengths 0 and 1, and what is written at each limit.
 pub fn systematic() -> Vec<Case> {
     let p = crate::paper::read_plant(P, [9; 6]).unwrap();
     let mut cases = vec![];
@@ -478,6 +504,10 @@ pub fn systematic() -> Vec<Case> {
     }
     small_queries(&p, &mut cases);
     short_tables(&mut cases);
+    short_texts(&mut cases);
+    deep_plants(&mut cases);
+    long_texts(&p, &mut cases);
+    large_tables(&mut cases);
     cases
 }
 
@@ -514,6 +544,7 @@ fn damaged_tables(p: &Tables, cases: &mut Vec<Case>) {
                     let mut t = p.clone();
                     t.$field[i] = value as $kind;
                     cases.push(Case::Check(t.clone()));
+                    cases.push(Case::Write(t.clone(), vec![5; P.len() + 2]));
                     cases.push(Case::Search(t, Query::empty(), vec![5; 6]));
                 }
             };
@@ -561,10 +592,115 @@ fn short_tables(cases: &mut Vec<Case>) {
                 postings: vec![value; length(5)],
             };
             cases.push(Case::Check(t.clone()));
+            cases.push(Case::Write(t.clone(), vec![5; 40]));
             for start in 0..3 {
                 let q = Query { required: vec![value], start, ..Query::empty() };
                 cases.push(Case::Search(t.clone(), q, vec![5; length(0)]));
             }
         }
+    }
+}
+
+/// Texts at the edges: no devices, terms with empty lists, several trees, numbers of each length.
+const EDGES: [&[u8]; 6] = [
+    P,
+    b"(plant\n)\n",
+    b"(plant\n(mark 1\n)\n(mark 65535\n)\n)\n",
+    b"(plant\n(dev 0\n)\n(dev 9\n)\n(dev 10\n)\n(dev 99\n)\n(dev 100\n)\n)\n",
+    b"(plant\n(dev 1\n(dev 2\n)\n)\n(dev 3\n)\n(dev 4\n(dev 5\n(dev 6\n)\n)\n(dev 7\n)\n)\n\
+(mark 9\n)\n(mark 10\n(own 1)\n(all 4)\n)\n)\n",
+    b"(plant\n(dev 255\n)\n(mark 9\n)\n(mark 99\n(own 1)\n)\n(mark 100\n)\n(mark 999\n)\n\
+(mark 1000\n(all 1)\n)\n(mark 10000\n)\n)\n",
+];
+
+/// Each edge, read, and written into buffers of every length.
+fn short_texts(cases: &mut Vec<Case>) {
+    for text in EDGES {
+        let t = crate::paper::read_plant(text, [9; 6]).unwrap();
+        cases.push(Case::Plant(text.to_vec(), [9; 6]));
+        cases.extend((0..text.len() + 3).map(|room| Case::Write(t.clone(), vec![5; room])));
+    }
+}
+
+/// Sound tables written into buffers around the length of their text, and of these lengths.
+fn around(t: &Tables, rooms: &[usize], cases: &mut Vec<Case>) {
+    let length = t.text().len();
+    let near = [0, length - 1, length, length + 1];
+    cases.extend(near.iter().chain(rooms).map(|&room| Case::Write(t.clone(), vec![5; room])));
+}
+
+/// A plant whose devices open on these tiers.
+fn of_tiers(tiers: impl IntoIterator<Item = usize>) -> Tables {
+    let mut t = Tables::default();
+    let mut open: Vec<usize> = vec![];
+    for (index, tier) in tiers.into_iter().enumerate() {
+        for o in open.drain(tier - 1..) {
+            t.last[o] = index as u16;
+        }
+        open.push(index);
+        t.last.push(0);
+        t.root.push(open[0] as u16 + 1);
+        t.level.push(index as u8);
+    }
+    for o in open {
+        t.last[o] = t.last.len() as u16;
+    }
+    t
+}
+
+/// Of a plant of one chain with a posting on device 1: what makes each of refusals 1 to 9 apply.
+const FAULTS: [fn(&mut Tables); 9] = [
+    |t| t.level.push(0),
+    |t| t.last[0] = 0,
+    |t| t.last[1] -= 1,
+    |t| t.root[2] = 2,
+    |t| t.starts.push(0),
+    |t| t.terms[0] = 0,
+    |t| t.starts[0] = 1,
+    |t| t.postings[0] = 0,
+    |t| t.postings = vec![3, 4],
+];
+
+/// Plants of 32 tiers and of more. Each of 1 to 9 comes before 36, and 36 before 40.
+fn deep_plants(cases: &mut Vec<Case>) {
+    for top in [31, 32, 33, 34, 9_000] {
+        around(&of_tiers(1..=top), &[70_000], cases);
+    }
+    for (top, after) in [(32, [32, 31]), (32, [32, 33]), (32, [1, 2]), (33, [1, 2])] {
+        around(&of_tiers([1].into_iter().chain(1..=top).chain(after)), &[], cases);
+    }
+    for top in [33, 9_000] {
+        let mut t = of_tiers(1..=top);
+        (t.terms, t.starts, t.postings) = (vec![1], vec![0], vec![2]);
+        for (k, fault) in FAULTS.iter().enumerate() {
+            let mut faulty = t.clone();
+            fault(&mut faulty);
+            assert_eq!(faulty.check(), k as u32 + 1);
+            cases.extend([0, 70_000].map(|room| Case::Write(faulty.clone(), vec![5; room])));
+        }
+    }
+}
+
+/// Texts of 65,536 bytes, and one less or more, read and written.
+fn long_texts(p: &Tables, cases: &mut Vec<Case>) {
+    for length in [65_535, 65_536, 65_537, 65_538] {
+        for mut t in [Tables::default(), p.clone(), of_tiers(1..=32), of_tiers(1..=33)] {
+            lengthen(&mut t, length);
+            assert_eq!(t.text().len(), length);
+            around(&t, &[65_536, 70_000], cases);
+            cases.push(Case::Plant(t.text(), t.lengths()));
+        }
+    }
+}
+
+/// Sound tables of as many devices, terms and postings as there may be: their texts are too long for any buffer.
+fn large_tables(cases: &mut Vec<Case>) {
+    let flat = of_tiers([1; 65_535]);
+    let terms = Tables { terms: (1..=8_192).collect(), starts: vec![0; 8_192], ..Tables::default() };
+    let mut postings = Tables { terms: (1..=17).collect(), ..flat.clone() };
+    postings.starts = (0..17).map(|k| k * 65_535).collect();
+    postings.postings = (0..1_048_576).map(|i| 2 * (i % 65_535 + 1)).collect();
+    for t in [flat, terms, postings, of_tiers(1..=65_535)] {
+        cases.extend([0, 65_536, 1_000_000].map(|room| Case::Write(t.clone(), vec![5; room])));
     }
 }

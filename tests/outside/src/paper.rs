@@ -1,4 +1,5 @@
-//! Document 01 in plain Rust, written from its text: tables and their checks, the cursor steps, both texts, the response.
+//! Document 01 in plain Rust, written from its text: tables and their checks, the cursor steps, both texts, the response; and
+//! document 02's writing of a plant.
 //! Nothing here is shared with the proved crates.
 
 #[derive(Clone, Debug, Default, PartialEq)]
@@ -38,6 +39,11 @@ pub struct Answer {
 impl Tables {
     pub fn size(&self) -> usize {
         self.last.len()
+    }
+
+    /// The length of each table.
+    pub fn lengths(&self) -> [usize; 6] {
+        [self.last.len(), self.root.len(), self.level.len(), self.terms.len(), self.starts.len(), self.postings.len()]
     }
 
     fn last_of(&self, device: usize) -> usize {
@@ -164,6 +170,60 @@ impl Tables {
         let mut run = Run::new(self, query);
         while run.position <= self.size() && run.round(answer) {}
         Answer { refusal: 0, count: run.count as u32, position: run.position as u32, moves: run.moves }
+    }
+
+    /// How many branches end with each device.
+    fn ends(&self) -> Vec<usize> {
+        let mut ends = vec![0; self.size()];
+        for &last in &self.last {
+            ends[last as usize - 1] += 1;
+        }
+        ends
+    }
+
+    /// The most branches that a device lies in, its own counted, for sound tables.
+    pub fn tiers(&self) -> usize {
+        let (mut open, mut most) = (0, 0);
+        for ends in self.ends() {
+            open += 1;
+            most = most.max(open);
+            open -= ends;
+        }
+        most
+    }
+
+    /// The plant text of sound tables: a device closes after the last of its branch.
+    pub fn text(&self) -> Vec<u8> {
+        let mut out = String::from("(plant\n");
+        for (level, ends) in self.level.iter().zip(self.ends()) {
+            out += &format!("(dev {level}\n");
+            out += &")\n".repeat(ends);
+        }
+        for (k, term) in self.terms.iter().enumerate() {
+            out += &format!("(mark {term}\n");
+            for &posting in self.list(k) {
+                out += &format!("({} {})\n", if posting % 2 == 1 { "all" } else { "own" }, device_of(posting));
+            }
+            out += ")\n";
+        }
+        (out + ")\n").into_bytes()
+    }
+
+    /// The text at the front of a buffer: the refusal, of 1 to 9, 36 and 40, and the length.
+    pub fn write(&self, buffer: &mut [u8]) -> (u32, usize) {
+        let refusal = self.check();
+        if refusal != 0 {
+            return (refusal, 0);
+        }
+        if self.tiers() > 32 {
+            return (36, 0);
+        }
+        let text = self.text();
+        if text.len() > buffer.len() || text.len() > 65_536 {
+            return (40, 0);
+        }
+        buffer[..text.len()].copy_from_slice(&text);
+        (0, text.len())
     }
 }
 

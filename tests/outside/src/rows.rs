@@ -1,6 +1,9 @@
-//! Document 01's worked rows over plant P, which the plain implementation must give.
+//! Document 01's worked rows over plant P, which the plain implementation must give, and what it writes.
+use crate::case::{Case, Outcome};
 use crate::generate::P;
 use crate::paper::{read_plant, read_query, respond, Tables};
+use crate::subjects::Wrong;
+use crate::Subject;
 
 /// The ask lines of a row, its devices, place and moves.
 type Row = (&'static str, &'static [u16], u32, u32);
@@ -74,4 +77,59 @@ fn texts_that_are_refused() {
     assert_eq!(query("(ask\n(need 4294967296)\n"), (32, 2));
     assert_eq!(query(&format!("(ask\n{}", "(not 1)\n".repeat(9))), (35, 10));
     assert_eq!(query("(ask\n)\n\n"), (34, 3));
+}
+
+#[test]
+fn text_of_p() {
+    let p = read_plant(P, [6, 6, 6, 2, 2, 3]).unwrap();
+    let mut buffer = vec![7; P.len() + 2];
+    assert_eq!(p.write(&mut buffer), (0, P.len()));
+    assert_eq!(buffer, [P, &[7, 7]].concat());
+    let mut short = vec![7; P.len() - 1];
+    assert_eq!(p.write(&mut short), (40, 0));
+    assert_eq!(short, vec![7; P.len() - 1]);
+}
+
+/// A plant of these branches and roots, without terms.
+fn bare(last: Vec<u16>, root: Vec<u16>) -> Tables {
+    Tables { level: vec![0; last.len()], last, root, ..Tables::default() }
+}
+
+#[test]
+fn plants_that_are_not_written() {
+    let chain = |n: u16| bare(vec![n; n as usize], vec![1; n as usize]);
+    assert_eq!(chain(32).write(&mut [7; 1_000]), (0, 9 + 32 * 9));
+    assert_eq!(chain(33).write(&mut [7; 1_000]), (36, 0));
+    assert_eq!(chain(33).write(&mut []), (36, 0));
+    assert_eq!(Tables { level: vec![], ..chain(33) }.write(&mut []), (1, 0));
+    let trees = |n: u16| bare((1..=n).collect(), (1..=n).collect());
+    assert_eq!(trees(7_280).write(&mut [7; 70_000]), (0, 9 + 7_280 * 9));
+    assert_eq!(trees(7_281).write(&mut [7; 70_000]), (40, 0));
+}
+
+/// The papers, but every posting that is read is own.
+struct ReadsWrong;
+
+impl Subject for ReadsWrong {
+    fn outcome(&self, case: &Case) -> Outcome {
+        match case.expected() {
+            Outcome::Plant(refusal, numbers, mut t) => {
+                t.postings.iter_mut().for_each(|posting| *posting &= !1);
+                Outcome::Plant(refusal, numbers, t)
+            }
+            outcome => outcome,
+        }
+    }
+}
+
+#[test]
+fn what_comes_back_is_compared() {
+    let p = read_plant(P, [9; 6]).unwrap();
+    let read = Case::Plant(P.to_vec(), [9; 6]);
+    let written = Case::Write(p, vec![7; P.len()]);
+    for (case, wrong) in [(read, &Wrong(7) as &dyn Subject), (written, &ReadsWrong)] {
+        assert_eq!(case.expected(), wrong.outcome(&case));
+        assert!(case.difference(&case.expected(), wrong).is_some());
+        assert!(case.difference(&case.expected(), &Wrong(0)).is_none());
+    }
 }

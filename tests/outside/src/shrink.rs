@@ -1,76 +1,96 @@
 //! The smallest case found that still differs: parts are left out and numbers made smaller as long as it does.
 use crate::case::Case;
-use crate::paper::{Query, Tables};
+use crate::paper::{self, Query, Tables};
 use crate::Subject;
 
 pub fn shrink(mut case: Case, subject: &dyn Subject) -> Case {
     let mut left = 20_000;
-    'again: loop {
-        for smaller in candidates(&case) {
-            if left == 0 {
-                return case;
-            }
-            left -= 1;
-            if smaller.difference(&smaller.expected(), subject).is_some() {
-                case = smaller;
-                continue 'again;
-            }
+    loop {
+        let mut tried = 0;
+        let mut smaller = candidates(&case).take(left).inspect(|_| tried += 1);
+        let found = smaller.find(|smaller| smaller.difference(&smaller.expected(), subject).is_some());
+        drop(smaller);
+        left -= tried;
+        match found {
+            Some(smaller) => case = smaller,
+            None => return case,
         }
-        return case;
     }
 }
 
 /// A list with a part left out: large parts first.
-fn without_parts<T: Clone>(v: &[T]) -> Vec<Vec<T>> {
-    let mut all = vec![];
-    let mut part = v.len();
-    while part > 0 {
-        for from in (0..v.len()).step_by(part).take(64) {
-            let mut shorter = v[..from].to_vec();
-            shorter.extend_from_slice(&v[(from + part).min(v.len())..]);
-            all.push(shorter);
-        }
-        part /= 2;
-    }
-    all
+fn without_parts<T: Clone>(v: &[T]) -> impl Iterator<Item = Vec<T>> + '_ {
+    let halves = std::iter::successors(Some(v.len()), |part| Some(part / 2)).take_while(|&part| part > 0);
+    let without = |from: usize, to: usize| [&v[..from], &v[to.min(v.len())..]].concat();
+    halves.flat_map(move |part| (0..v.len()).step_by(part).take(64).map(move |from| without(from, from + part)))
 }
 
-fn candidates(case: &Case) -> Vec<Case> {
+/// Smaller cases, made one after the other, since there are many and each may be large.
+fn candidates(case: &Case) -> Box<dyn Iterator<Item = Case> + '_> {
     match case {
-        Case::Check(t) => tables(t).into_iter().map(Case::Check).collect(),
+        Case::Check(t) => Box::new(tables(t).map(Case::Check)),
         Case::Search(t, q, answer) => {
-            let mut all: Vec<Case> = vec![];
-            for smaller in tables(t) {
-                let mut room = answer.clone();
-                room.truncate(answer.len() - (t.size() - smaller.size()).min(answer.len()));
-                all.push(Case::Search(smaller.clone(), q.clone(), room));
-                all.push(Case::Search(smaller, q.clone(), answer.clone()));
-            }
-            all.extend(queries(q).into_iter().map(|q| Case::Search(t.clone(), q, answer.clone())));
-            all.extend(without_parts(answer).into_iter().map(|a| Case::Search(t.clone(), q.clone(), a)));
-            all
+            let of_tables = tables(t).flat_map(|smaller| {
+                let shorter = cut(answer, t.size() - smaller.size());
+                [Case::Search(smaller.clone(), q.clone(), shorter), Case::Search(smaller, q.clone(), answer.clone())]
+            });
+            let of_queries = queries(q).into_iter().map(|q| Case::Search(t.clone(), q, answer.clone()));
+            let of_answers = without_parts(answer).map(|a| Case::Search(t.clone(), q.clone(), a));
+            Box::new(of_tables.chain(of_queries).chain(of_answers))
         }
-        Case::Plant(text, room) => texts(text).into_iter().map(|text| Case::Plant(text, *room)).collect(),
-        Case::Query(text) => texts(text).into_iter().map(Case::Query).collect(),
+        Case::Plant(text, room) => {
+            let read = paper::read_plant(text, *room).into_iter();
+            let written = read.flat_map(|t| [0, 3].map(|spare| Case::Write(t.clone(), vec![b'.'; text.len() + spare])));
+            Box::new(written.chain(texts(text).map(|text| Case::Plant(text, *room))))
+        }
+        Case::Write(t, buffer) => {
+            let length = text_length(t);
+            let of_tables = tables(t).flat_map(move |smaller| {
+                let shorter = cut(buffer, length.saturating_sub(text_length(&smaller)));
+                [Case::Write(smaller.clone(), shorter), Case::Write(smaller, buffer.clone())]
+            });
+            Box::new(of_tables.chain(buffers(buffer).into_iter().map(|b| Case::Write(t.clone(), b))))
+        }
+        Case::Query(text) => Box::new(texts(text).map(Case::Query)),
         Case::Respond(plant, query) => {
-            let shorter_plants = texts(plant).into_iter().map(|p| Case::Respond(p, query.clone()));
-            shorter_plants.chain(texts(query).into_iter().map(|q| Case::Respond(plant.clone(), q))).collect()
+            let shorter_plants = texts(plant).map(|p| Case::Respond(p, query.clone()));
+            Box::new(shorter_plants.chain(texts(query).map(|q| Case::Respond(plant.clone(), q))))
         }
     }
+}
+
+/// A list without so many entries at its end.
+fn cut<T: Clone>(v: &[T], count: usize) -> Vec<T> {
+    v[..v.len().saturating_sub(count)].to_vec()
+}
+
+/// The length of the text of sound tables, else 0.
+fn text_length(t: &Tables) -> usize {
+    if t.check() == 0 {
+        t.text().len()
+    } else {
+        0
+    }
+}
+
+/// A buffer of half the length, one byte shorter, and with the same byte everywhere.
+fn buffers(buffer: &[u8]) -> Vec<Vec<u8>> {
+    let shorter = [buffer.len() / 2, buffer.len().saturating_sub(1)].map(|length| buffer[..length].to_vec());
+    let all = shorter.into_iter().chain([vec![b'.'; buffer.len()]]);
+    all.filter(|b| b != buffer).collect()
 }
 
 /// A text with whole lines left out, then bytes.
-fn texts(text: &[u8]) -> Vec<Vec<u8>> {
+fn texts(text: &[u8]) -> impl Iterator<Item = Vec<u8>> + '_ {
     let lines: Vec<&[u8]> = text.split_inclusive(|&b| b == b'\n').collect();
-    let mut all: Vec<Vec<u8>> = without_parts(&lines).into_iter().map(|l| l.concat()).collect();
-    all.extend(without_parts(text));
-    all
+    let of_lines: Vec<Vec<u8>> = without_parts(&lines).map(|l| l.concat()).collect();
+    of_lines.into_iter().chain(without_parts(text))
 }
 
 fn queries(q: &Query) -> Vec<Query> {
     let mut all = vec![];
-    all.extend(without_parts(&q.required).into_iter().map(|required| Query { required, ..q.clone() }));
-    all.extend(without_parts(&q.forbidden).into_iter().map(|forbidden| Query { forbidden, ..q.clone() }));
+    all.extend(without_parts(&q.required).map(|required| Query { required, ..q.clone() }));
+    all.extend(without_parts(&q.forbidden).map(|forbidden| Query { forbidden, ..q.clone() }));
     if q.levels.is_some() {
         all.push(Query { levels: None, ..q.clone() });
     }
@@ -86,23 +106,17 @@ fn queries(q: &Query) -> Vec<Query> {
 }
 
 /// Tables without a term, without a device (what follows is numbered anew), or with one table shorter.
-fn tables(t: &Tables) -> Vec<Tables> {
-    let mut all = vec![];
-    let count = t.terms.len();
-    if count > 0 && t.starts.len() == count {
-        for k in (0..count).step_by(count / 64 + 1) {
-            all.extend(without_term(t, k));
-        }
-    }
+fn tables(t: &Tables) -> impl Iterator<Item = Tables> + '_ {
+    let count = if t.starts.len() == t.terms.len() { t.terms.len() } else { 0 };
+    let terms = (0..count).step_by(count / 64 + 1).filter_map(|k| without_term(t, k));
     let n = t.size();
-    for part in [n / 2, n / 8, 1] {
-        if part > 0 {
-            all.extend((1..=n).step_by(part.max(n / 64 + 1)).map(|d| without_devices(t, d, (d + part - 1).min(n))));
-        }
-    }
-    all.extend(without_parts(&t.level).into_iter().map(|level| Tables { level, ..t.clone() }));
-    all.extend(without_parts(&t.postings).into_iter().map(|postings| Tables { postings, ..t.clone() }));
-    all
+    let devices = [n / 2, n / 8, 1].into_iter().filter(|&part| part > 0).flat_map(move |part| {
+        let tops = (1..=n).step_by(part.max(n / 64 + 1));
+        tops.map(move |d| without_devices(t, d, (d + part - 1).min(n)))
+    });
+    let levels = without_parts(&t.level).map(|level| Tables { level, ..t.clone() });
+    let postings = without_parts(&t.postings).map(|postings| Tables { postings, ..t.clone() });
+    terms.chain(devices).chain(levels).chain(postings)
 }
 
 fn without_term(t: &Tables, k: usize) -> Option<Tables> {

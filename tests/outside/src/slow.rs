@@ -90,6 +90,13 @@ fn check_index(t: &Tables) -> u32 {
     0
 }
 
+/// Whether some device lies in more than 32 branches, each device against each, for device tables that were accepted.
+pub fn too_deep(t: &Tables) -> bool {
+    let holds = |d: usize, e: usize| d <= e && e <= t.last[d - 1] as usize;
+    let devices = || 1..=t.size();
+    devices().any(|e| devices().filter(|&d| holds(d, e)).count() > 32)
+}
+
 /// What an accepted answer breaks, if anything: `unlimited` is the answer to the same query with the largest budget.
 pub fn broken(tables: &Tables, query: &Query, got: Answer, listing: &[u16], unlimited: Answer) -> Option<&'static str> {
     let n = tables.size();

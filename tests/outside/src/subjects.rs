@@ -1,6 +1,6 @@
 //! What is held to the paper: the archive, or the paper with a known mistake in it.
 use crate::case::{lent, Case, Outcome};
-use crate::paper::Answer;
+use crate::paper::{Answer, Tables};
 use crate::{ffi, Subject};
 
 pub struct Archive;
@@ -18,6 +18,11 @@ impl Subject for Archive {
                 let (refusal, numbers) = ffi::read_plant(text, &mut t);
                 Outcome::Plant(refusal, numbers, t)
             }
+            Case::Write(t, buffer) => {
+                let mut buffer = buffer.clone();
+                let (refusal, length) = ffi::write_plant(t, &mut buffer);
+                Outcome::Written(refusal, length, buffer)
+            }
             Case::Query(text) => Outcome::Query(ffi::read_query(text)),
             Case::Respond(plant, query) => {
                 let (length, bytes) = ffi::respond(plant, query);
@@ -27,7 +32,7 @@ impl Subject for Archive {
     }
 }
 
-/// Document 01 with one of the mistakes that it warns of, or a like one.
+/// The papers with one of the mistakes that document 01 warns of, or a like one.
 pub struct Wrong(pub u64);
 
 impl Subject for Wrong {
@@ -48,11 +53,61 @@ impl Subject for Wrong {
             (4, Case::Query(text)) if text.ends_with(b")") => text.push(b'\n'),
             _ => (),
         }
-        let mut outcome = case.expected();
-        if let (5, Outcome::Answer(answer, _)) = (self.0, &mut outcome) {
+        match (self.0, &case, case.expected()) {
             // a move counts each posting passed
-            *answer = Answer { moves: answer.moves + answer.moves / 4, ..*answer };
+            (5, _, Outcome::Answer(answer, listing)) => {
+                Outcome::Answer(Answer { moves: answer.moves + answer.moves / 4, ..answer }, listing)
+            }
+            // a device closes after the next one opens
+            (6, _, Outcome::Written(0, length, mut bytes)) => {
+                close_late(&mut bytes[..length]);
+                Outcome::Written(0, length, bytes)
+            }
+            // a posting for the whole branch is written as own
+            (7, _, Outcome::Written(0, length, mut bytes)) => {
+                if let Some(at) = bytes[..length].windows(4).position(|w| w == b"(all") {
+                    bytes[at..at + 4].copy_from_slice(b"(own");
+                }
+                Outcome::Written(0, length, bytes)
+            }
+            // the first byte is written before the text is found too long
+            (8, _, Outcome::Written(40, length, mut bytes)) => {
+                bytes.iter_mut().take(1).for_each(|b| *b = b'(');
+                Outcome::Written(40, length, bytes)
+            }
+            // a 0 ends the text, where there is room for it
+            (9, _, Outcome::Written(0, length, mut bytes)) => {
+                bytes.iter_mut().skip(length).take(1).for_each(|b| *b = 0);
+                Outcome::Written(0, length, bytes)
+            }
+            // more than 32 tiers are written
+            (10, Case::Write(t, _), Outcome::Written(36, _, bytes)) => write(t, bytes),
+            // a text above 65,536 bytes is written
+            (11, Case::Write(t, _), Outcome::Written(40, _, bytes)) => write(t, bytes),
+            // 40 comes before 36
+            (12, Case::Write(t, _), Outcome::Written(36, length, bytes)) if t.text().len() > bytes.len() => {
+                Outcome::Written(40, length, bytes)
+            }
+            (_, _, outcome) => outcome,
         }
-        outcome
+    }
+}
+
+/// Puts the first closing line that a device follows behind that device's line.
+fn close_late(text: &mut [u8]) {
+    let Some(from) = text.windows(7).position(|w| w == b")\n(dev ") else { return };
+    let line = text[from + 2..].iter().position(|&b| b == b'\n').unwrap();
+    text[from..from + line + 3].rotate_left(2);
+}
+
+/// The text of sound tables, however deep or long, where the buffer holds it.
+fn write(t: &Tables, mut buffer: Vec<u8>) -> Outcome {
+    let text = t.text();
+    match buffer.get_mut(..text.len()) {
+        Some(front) => {
+            front.copy_from_slice(&text);
+            Outcome::Written(0, text.len(), buffer)
+        }
+        None => Outcome::Written(40, 0, buffer),
     }
 }
