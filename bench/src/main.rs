@@ -1,7 +1,8 @@
 //! Times the proved search beside plain Rust and other ways to the same listing, and writes docs/BENCHMARK.md.
 //!
-//! `bench` times; `bench quick` shows rough figures and writes nothing, `bench read` those of reading alone; `bench count common`,
-//! `bench count any` and `bench count read` make each call a fixed number of times, for callgrind to count instructions.
+//! `bench` times; `bench quick` shows rough figures and writes nothing, `bench read` those of reading and writing alone;
+//! `bench count common`, `bench count any`, `bench count read` and `bench count write` make each call a fixed number of times, for
+//! callgrind to count instructions.
 #[allow(dead_code)]
 #[path = "../../tests/outside/src/ffi.rs"]
 mod ffi;
@@ -11,6 +12,7 @@ mod lines;
 mod paper;
 mod plain;
 mod plant_reader;
+mod plant_writer;
 mod plants;
 mod query_reader;
 #[allow(dead_code)]
@@ -25,6 +27,7 @@ mod texts;
 mod time;
 mod unshared;
 mod ways;
+mod writing;
 
 use paper::{Query, Tables};
 use plants::{Kind, Size, KINDS};
@@ -32,8 +35,11 @@ use random::Random;
 use std::hint::black_box;
 use time::{clock, seconds, Least, Rounds, Times};
 use ways::{checks_agree, few, proved_steps, Checks, Moves, Taken, Ways};
+use writing::Writing;
 
 const MISSION: Size = Size(1_024, 256, 4_096);
+/// With nearly as many postings as a text has room for.
+const LONGEST: Size = Size(1_024, 256, 5_140);
 const LIMITS: Size = Size(65_535, 8_192, 1_048_576);
 
 /// What one plant gave; the checks in seconds.
@@ -189,6 +195,11 @@ fn count(common: bool) {
     }
 }
 
+/// Writing at both sizes of text; each plant comes round as often as in reading.
+fn written(readings: usize) -> [Writing; 2] {
+    [MISSION, LONGEST].map(|size| writing::measure(size, 10 * readings))
+}
+
 fn main() {
     let words: Vec<String> = std::env::args().skip(1).collect();
     let words: Vec<&str> = words.iter().map(String::as_str).collect();
@@ -196,7 +207,11 @@ fn main() {
         ["count", "common"] => return count(true),
         ["count", "any"] => return count(false),
         ["count", "read"] => return reading::count(MISSION),
-        ["read"] => return print!("{}", report::reading(MISSION, &reading::measure(MISSION, 60), reading::printing())),
+        ["count", "write"] => return writing::count(MISSION),
+        ["read"] => {
+            let read = report::reading(MISSION, &reading::measure(MISSION, 60), reading::printing());
+            return print!("{read}{}", report::writing(&written(60)));
+        }
         ["quick"] => {
             (Effort { queries: 10, passes: 4, whole: 25, steps: 25 }, Effort { queries: 4, passes: 3, whole: 1, steps: 30 }, 20)
         }
@@ -204,11 +219,11 @@ fn main() {
             let limits = Effort { queries: 12, passes: 5, whole: 2, steps: 30 };
             (Effort { queries: 40, passes: 10, whole: 25, steps: 40 }, limits, 200)
         }
-        _ => panic!("usage: bench [quick | read | count common | count any | count read]"),
+        _ => panic!("usage: bench [quick | read | count common | count any | count read | count write]"),
     };
     let measured = [measure("the mission's size", MISSION, mission), measure("the limits", LIMITS, limits)];
     let reading = reading::measure(MISSION, readings);
-    let text = report::whole(&measured, &reading, reading::printing(), &growth(), &skips());
+    let text = report::whole(&measured, &reading, reading::printing(), &written(readings), &growth(), &skips());
     print!("{text}");
     if words.is_empty() {
         std::fs::write(concat!(env!("CARGO_MANIFEST_DIR"), "/../docs/BENCHMARK.md"), &text).unwrap();

@@ -157,7 +157,8 @@ fn redundant(last: &[u16], list: &[u32]) -> bool {
     false
 }
 
-fn list(t: &Tables, k: usize) -> &[u32] {
+/// The list of the term at index k.
+pub fn list(t: &Tables, k: usize) -> &[u32] {
     let end = t.starts.get(k + 1).map_or(t.postings.len(), |&s| s as usize);
     &t.postings[t.starts[k] as usize..end]
 }

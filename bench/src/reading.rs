@@ -8,7 +8,7 @@ use crate::{ffi, plain, plant_reader, query_reader, texts};
 use std::hint::black_box;
 
 /// Plants, each with two queries of each kind. They are read in turn: a processor learns a text that is read again at once.
-const PLANTS: u64 = 8;
+pub const PLANTS: u64 = 8;
 
 /// Rounds of printing: its time is a difference of two.
 const PRINTINGS: usize = 3_000;
@@ -48,7 +48,7 @@ struct Job {
 fn job(seed: u64, size: Size) -> Job {
     let mut r = Random(seed);
     let t = plants::plant(&mut r, size);
-    let plant = texts::plant(&t);
+    let plant = t.text();
     let mut queries: Vec<Vec<u8>> = vec![];
     for kind in KINDS {
         for common in [true, false] {
@@ -74,7 +74,11 @@ fn tables_agree(text: &[u8], t: &Tables) {
 
 /// Tables with room for a plant of the mission's size, no entry of them 0.
 fn lent() -> Tables {
-    let mut t = room();
+    filled(room())
+}
+
+/// Tables of the same lengths, each entry 7.
+pub fn filled(mut t: Tables) -> Tables {
     t.last.fill(7);
     t.root.fill(7);
     t.level.fill(7);
@@ -190,7 +194,7 @@ impl Job {
 pub fn count(size: Size) {
     let mut t = room();
     for k in 0..PLANTS {
-        let text = texts::plant(&plants::plant(&mut Random(7 + k), size));
+        let text = plants::plant(&mut Random(7 + k), size).text();
         black_box(ffi::read_plant(black_box(&text), &mut t));
         black_box(plant_reader::read_plant(black_box(&text), &mut t));
     }

@@ -2,10 +2,11 @@
 use crate::plants::Size;
 use crate::reading::{Pair, Reading};
 use crate::time::Times;
+use crate::writing::Writing;
 use crate::{Growth, Measured, Row, Skip, MISSION};
 use std::fmt::Write;
 
-/// The most that a call, a check or a reading may take, in times of the plain one.
+/// The most that a call, a check, a reading or a writing may take, in times of the plain one.
 const MOST: f64 = 1.1;
 /// The most that a check may take, in times of the plain one in two passes.
 const MOST_OF_TWO_PASSES: f64 = 0.75;
@@ -194,6 +195,38 @@ fn reading_goal(r: &Reading) -> String {
     out
 }
 
+/// The two rows of writing: what is timed, and its seconds.
+fn rows_of_writing(w: &Writing) -> [(&'static str, Pair); 2] {
+    [("writing a plant", w.write), ("writing a plant and reading it back", w.back)]
+}
+
+/// Writing, and reading back what was written, proved against plain.
+pub fn writing(written: &[Writing]) -> String {
+    let mut out = String::from("\n## Writing, and reading back\n\n");
+    out += "The same eight plants, and eight with nearly as many postings as a text of 65,536 bytes has room for.\n";
+    out += &head(&["", "postings", "bytes", "plain µs", "proved µs", "proved / plain"]);
+    for w in written {
+        for (name, Pair { plain, proved }) in rows_of_writing(w) {
+            let times = format!("{} | {} | **{:.2}**", micro(plain), micro(proved), proved / plain);
+            writeln!(out, "| {name} | {} | {} | {times} |", commas(w.size.2), commas(w.bytes)).unwrap();
+        }
+    }
+    out
+}
+
+fn writing_goals(written: &[Writing]) -> String {
+    let mut out = String::from("\n### Goals for writing\n");
+    out += &head(&["", "bytes", "ratio", "at most", "goal"]);
+    for w in written {
+        for (name, Pair { plain, proved }) in rows_of_writing(w) {
+            let ratio = proved / plain;
+            let goal = format!("{ratio:.2} | {MOST:.2} | {}", met(ratio, MOST));
+            writeln!(out, "| {name}, proved / plain | {} | {goal} |", commas(w.bytes)).unwrap();
+        }
+    }
+    out
+}
+
 fn tables_grow(growth: &[Growth]) -> String {
     let mut out = String::from("\n## The check grows with the tables\n");
     out += &head(&["tables", "plain µs", "proved µs", "proved / plain", "proved, ns for each device and posting"]);
@@ -217,11 +250,14 @@ fn moves_skip(skips: &[Skip]) -> String {
     out
 }
 
-pub fn whole(measured: &[Measured], read: &Reading, printing: Pair, growth: &[Growth], skips: &[Skip]) -> String {
+pub fn whole(
+    measured: &[Measured], read: &Reading, printing: Pair, written: &[Writing], growth: &[Growth], skips: &[Skip],
+) -> String {
     let all = |each: fn(&Measured) -> String| measured.iter().map(each).collect::<String>();
     let mut out = String::from(include_str!("../before.md"));
     out += &all(figures);
     out += &reading(MISSION, read, printing);
+    out += &writing(written);
     out += &tables_grow(growth);
     out += &moves_skip(skips);
     out += "\n## Sharing: the figures of document 000\n\n";
@@ -229,7 +265,7 @@ pub fn whole(measured: &[Measured], read: &Reading, printing: Pair, growth: &[Gr
     out += "join. Each row has the moves of all its queries together.\n";
     out += &all(sharing);
     out += "\n";
-    let goals = all(goals) + &reading_goal(read) + &growing(growth, skips);
+    let goals = all(goals) + &reading_goal(read) + &writing_goals(written) + &growing(growth, skips);
     out += &include_str!("../after.md").replace("{goals}", goals.trim());
     out
 }

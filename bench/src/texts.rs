@@ -1,31 +1,6 @@
-//! Tables and queries as texts.
-use crate::paper::{device_of, Query, Tables};
+//! Queries as texts.
+use crate::paper::Query;
 use std::fmt::Write;
-
-/// The plant text of sound tables.
-pub fn plant(t: &Tables) -> Vec<u8> {
-    let mut out = String::from("(plant\n");
-    let mut open: Vec<usize> = vec![];
-    for (index, &last) in t.last.iter().enumerate() {
-        while open.last().is_some_and(|&end| end <= index) {
-            open.pop();
-            out += ")\n";
-        }
-        writeln!(out, "(dev {}", t.level[index]).unwrap();
-        open.push(last as usize);
-    }
-    out += &")\n".repeat(open.len());
-    for &term in &t.terms {
-        writeln!(out, "(mark {term}").unwrap();
-        for &posting in crate::plain::list_of(t, term as u32) {
-            let word = if posting % 2 == 1 { "all" } else { "own" };
-            writeln!(out, "({word} {})", device_of(posting)).unwrap();
-        }
-        out += ")\n";
-    }
-    out += ")\n";
-    out.into_bytes()
-}
 
 /// The query text of a query.
 pub fn query(q: &Query) -> Vec<u8> {
