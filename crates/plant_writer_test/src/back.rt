@@ -6,9 +6,8 @@ use crate::plants::write_p;
 use crate::print::row;
 use crate::print::say;
 use crate::print::tell;
-use integers::u8_to_u64;
-use integers::u16_to_u64;
-use integers::u32_to_u64;
+use integers::u8_to_u32;
+use integers::u16_to_u32;
 use plant_text::Outcome;
 use plant_writer::Written;
 
@@ -76,9 +75,9 @@ fn print_devices(last: &[u16; 8], root: &[u16; 8], level: &[u8; 8]) {
     let mut i = 0;
     while i < 8 {
         row(
-            u16_to_u64(last[i]),
-            u16_to_u64(root[i]),
-            u8_to_u64(level[i]),
+            u16_to_u32(last[i]),
+            u16_to_u32(root[i]),
+            u8_to_u32(level[i]),
         );
         i += 1;
     }
@@ -88,11 +87,7 @@ fn print_marks(terms: &[u16; 8], starts: &[u32; 8], postings: &[u32; 8]) {
     say(b"marks, starts, postings\n");
     let mut i = 0;
     while i < 8 {
-        row(
-            u16_to_u64(terms[i]),
-            u32_to_u64(starts[i]),
-            u32_to_u64(postings[i]),
-        );
+        row(u16_to_u32(terms[i]), starts[i], postings[i]);
         i += 1;
     }
 }

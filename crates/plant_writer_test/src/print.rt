@@ -17,10 +17,10 @@ pub fn number(n: u64) {
 }
 
 // Prints a line of three numbers.
-pub fn row(a: u64, b: u64, c: u64) {
-    io::print_decimal(STDOUT_FILENO, a);
-    number(b);
-    number(c);
+pub fn row(a: u32, b: u32, c: u32) {
+    io::print_decimal(STDOUT_FILENO, a as u64);
+    number(b as u64);
+    number(c as u64);
     end();
 }
 
