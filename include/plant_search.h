@@ -37,9 +37,11 @@ uint32_t plant_search_check(
  * start: the device to begin at. budget: the most moves that the cursors may make.
  * answer: room for N devices or more. The matching devices are written to its front; other entries keep what they hold, and
  * after a refusal all do.
- * numbers: the number of devices listed, the position, the moves made. The listing holds every match from the start up to the
- * position, and is complete where that is N + 1. Else the budget was spent there: going on from it as the start lists the rest,
- * with a larger budget, since the cursors begin anew. After a refusal all three are 0. */
+ * numbers: the number of devices listed, the position, passed, the moves made. The listing holds every match from the start up
+ * to the position, and is complete where that is N + 1. Else the budget was spent there: going on from it as the start lists
+ * the rest, with a larger budget, since the cursors begin anew. After a refusal all four are 0.
+ * passed: the postings that the moves passed over without landing. With the moves they are never more than the postings of the
+ * lists named. */
 uint32_t plant_search_search(
     const uint16_t *last, size_t last_length,
     const uint16_t *root, size_t root_length,
@@ -52,7 +54,7 @@ uint32_t plant_search_search(
     uint32_t ranged, uint32_t low, uint32_t high,
     uint32_t start, uint32_t budget,
     uint16_t *answer, size_t answer_length,
-    uint32_t numbers[3]);
+    uint32_t numbers[4]);
 
 /* Reads plant text into six tables: the refusal, 20 to 29, or 0.
  *

@@ -19,9 +19,9 @@ abbrev pub query-of : List ℕ → List ℕ → Levels → ℕ → ℕ → Query
 query-of required forbidden levels start budget =
     record { required = terms-of required; forbidden = terms-of forbidden; levels = levels; start = start; budget = budget }
 
--- the three numbers beside a refusal
+-- the four numbers beside a refusal
 abbrev pub numbers-of : Answer → List ℕ
-numbers-of a = a .count ∷ a .position ∷ a .moves ∷ []
+numbers-of a = a .count ∷ a .position ∷ a .passed ∷ a .moves ∷ []
 
 -- level codes as three numbers: 1 for a range, its low and its high; or zeros
 abbrev pub level-numbers : Levels → List ℕ

@@ -14,12 +14,12 @@ use Rattle.written_text.specs.RoundTrip.{RoundTrips}
 use Rattle.plant_writer.specs.Write.{text-after, length-of}
 use Rattle.c_api.specs.Handing.{numbers-of, outcome-numbers}
 
--- `plant_search_search`: the refusal r, the three numbers beside it and the answer list, which was `out`
-pub record SearchHanded (P : Plant) (I : Index) (q : Query) (out out′ three : List ℕ) (r : ℕ) : Type 0 where
+-- `plant_search_search`: the refusal r, the four numbers beside it and the answer list, which was `out`
+pub record SearchHanded (P : Plant) (I : Index) (q : Query) (out out′ four : List ℕ) (r : ℕ) : Type 0 where
   pub refusal : r ≡ answer P I q (length out) .refusal
-  pub numbers : three ≡ numbers-of (answer P I q (length out))
+  pub numbers : four ≡ numbers-of (answer P I q (length out))
   pub listing : out′ ≡ answer-list P I q out
-  pub promised : r ≡ 0 → Promised P I q (take (getD three 0 0) out′) (getD three 1 0) (getD three 2 0)
+  pub promised : r ≡ 0 → Promised P I q (take (getD four 0 0) out′) (getD four 1 0) (getD four 2 0) (getD four 3 0)
 
 -- `plant_search_read_plant`: the refusal r, the four numbers beside it and the tables, which were those of P and I
 pub record PlantHanded (text : List ℕ) (P : Plant) (I : Index) (P′ : Plant) (I′ : Index) (four : List ℕ) (r : ℕ) : Type 0 where

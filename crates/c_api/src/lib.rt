@@ -35,7 +35,8 @@ pub extern "C" fn plant_search_check(
 }
 
 // Searches for the devices that carry all required terms and no forbidden one. Any level code is wanted where `ranged` is 0, else those of a
-// range. The listing goes to the front of `out`; `numbers` is set to the number of devices listed, the position and the moves.
+// range. The listing goes to the front of `out`; `numbers` is set to the number of devices listed, the position, the postings passed over and
+// the moves.
 #[no_mangle]
 pub extern "C" fn plant_search_search(
     last: &[u16],
@@ -52,7 +53,7 @@ pub extern "C" fn plant_search_search(
     start: u32,
     budget: u32,
     out: &mut [u16],
-    numbers: &mut [u32; 3],
+    numbers: &mut [u32; 4],
 ) -> u32
     ensures { λ r. ⌜ SearchHanded
         (plant (now (last .entry)) (now (root .entry)) (now (level .entry)))
@@ -62,7 +63,7 @@ pub extern "C" fn plant_search_search(
 {
     let query = query_of(required, forbidden, ranged, low, high, start, budget);
     let told = search::search(last, root, level, terms, starts, postings, query, out);
-    *numbers = [told.count, told.position, told.moves];
+    *numbers = [told.count, told.position, told.passed, told.moves];
     told.refusal
 }
 

@@ -1,42 +1,48 @@
-// Searches a sorted list and an unsorted one, from the start, from within, from the end and from past it, and prints each index.
-// No local holds a cursor, so every function is covered.
+// Steps over a sorted list and an unsorted one, from the start, from within, from the end and from past it, and prints where each step lands and
+// how many postings it passed over. No local holds a cursor, so every function is covered.
+use index::Step;
 use libc::STDOUT_FILENO;
 
-// Prints `name position device: index`, and answers the index.
-fn show(name: &[u8], list: &[u32], position: usize, device: u32) -> usize {
-    let index = posting_cursor::seek_from(list, position, device);
+// Prints the end of a line, `: index passed n`.
+fn answer(step: Step) {
+    io::write_all(STDOUT_FILENO, b": ");
+    io::print_decimal(STDOUT_FILENO, step.at as u64);
+    io::write_all(STDOUT_FILENO, b" passed ");
+    io::print_decimal(STDOUT_FILENO, step.passed as u64);
+    io::write_all(STDOUT_FILENO, b"\n");
+}
+
+// Prints `name position device: index passed n`, and answers the step.
+fn show(name: &[u8], list: &[u32], position: usize, device: u32) -> Step {
+    let step = posting_cursor::seek_from(list, position, device);
     io::write_all(STDOUT_FILENO, name);
     io::write_all(STDOUT_FILENO, b" ");
     io::print_decimal(STDOUT_FILENO, position as u64);
     io::write_all(STDOUT_FILENO, b" ");
     io::print_decimal(STDOUT_FILENO, device as u64);
-    io::write_all(STDOUT_FILENO, b": ");
-    io::print_decimal(STDOUT_FILENO, index as u64);
-    io::write_all(STDOUT_FILENO, b"\n");
-    index
+    answer(step);
+    step
 }
 
-// Prints `name twice first second: index`.
+// Prints `name twice first second: index passed n`.
 fn show_twice(name: &[u8], list: &[u32], first: u32, second: u32) {
-    let index = posting_cursor::seek_twice(list, first, second);
+    let step = posting_cursor::seek_twice(list, first, second);
     io::write_all(STDOUT_FILENO, name);
     io::write_all(STDOUT_FILENO, b" twice ");
     io::print_decimal(STDOUT_FILENO, first as u64);
     io::write_all(STDOUT_FILENO, b" ");
     io::print_decimal(STDOUT_FILENO, second as u64);
-    io::write_all(STDOUT_FILENO, b": ");
-    io::print_decimal(STDOUT_FILENO, index as u64);
-    io::write_all(STDOUT_FILENO, b"\n");
+    answer(step);
 }
 
-// Seeks devices 2, 4, 4, 7 and 11, each from where the last search stopped; then from past the end.
+// Seeks devices 2, 4, 4, 7 and 11, each from where the last step landed; then from past the end.
 fn walk(name: &[u8], list: &[u32]) {
     let a = show(name, list, 0, 2);
-    let b = show(name, list, a, 4);
-    let c = show(name, list, b, 4);
-    let d = show(name, list, c, 7);
-    let e = show(name, list, d, 11);
-    show(name, list, e, 1);
+    let b = show(name, list, a.at, 4);
+    let c = show(name, list, b.at, 4);
+    let d = show(name, list, c.at, 7);
+    let e = show(name, list, d.at, 11);
+    show(name, list, e.at, 1);
     show(name, list, 100, 0);
 }
 
@@ -46,6 +52,7 @@ fn main() {
     walk(b"sorted", &sorted);
     show(b"sorted", &sorted, 3, 4);
     show(b"sorted", &sorted, 4, 0);
+    show(b"sorted", &sorted, 1, 11);
     show_twice(b"sorted", &sorted, 3, 6);
     // devices 4, 1, 9, 2, 7
     let unsorted: [u32; 5] = [8, 3, 18, 4, 15];

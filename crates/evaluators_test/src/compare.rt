@@ -40,10 +40,10 @@ fn is_listing(answer: &[u16], count: u32, position: u32, listed: &[u8; 16]) -> b
 
 // Whether a refusal has zeros beside it.
 fn is_bare(a: Answer) -> bool {
-    a.count == 0 && a.position == 0 && a.moves == 0
+    a.count == 0 && a.position == 0 && a.passed == 0 && a.moves == 0
 }
 
-// Whether an accepted answer is the slow listing up to its position, and the plain steps' listing, position and moves.
+// Whether an accepted answer is the slow listing up to its position, and the plain steps' listing, position, postings passed over and moves.
 fn is_right(
     last: &[u16],
     root: &[u16],
@@ -68,7 +68,7 @@ fn is_right(
         query,
         &mut plain,
     );
-    if a.position != ended.position || a.moves != ended.moves {
+    if a.position != ended.position || a.passed != ended.passed || a.moves != ended.moves {
         return false;
     }
     is_listing(answer, a.count, a.position, &slow)

@@ -1,5 +1,5 @@
-// Document 01's rows a to m and its sentences after them, as texts. Prints each query with its answer and with what the slow evaluator
-// lists, and how many differ.
+// Document 01's rows a to m and its sentences after them, and document 02's postings passed over, as texts. Prints each query with its
+// answer and with what the slow evaluator lists, and how many differ.
 use crate::beside;
 use crate::numbers::plus;
 use io::write_all;
@@ -73,12 +73,31 @@ fn sentences(p: &[u8]) -> u32 {
     )
 }
 
+// Moves that pass over postings, over a plant p of two trees. The cursor of mark 8 goes from 1 over 2 to 5, the first in the tree of 4; that of
+// mark 9 from 4 to the next posting, 7; that of mark 8 from 5 over 6, in the branch of 5, to 7.
+fn jumps(p: &[u8]) -> u32 {
+    let all = row(
+        b"passed over: 2 and 6\n",
+        p,
+        b"(ask\n(need 9)\n(not 8)\n)\n",
+    );
+    let two = row(
+        b"passed over by the first two moves: 2\n",
+        p,
+        b"(ask\n(need 9)\n(not 8)\n(moves 2)\n)\n",
+    );
+    plus(all, two)
+}
+
 // All of them, where p is document 01's plant P.
 fn rows_and_sentences(p: &[u8]) -> u32 {
     let first = rows_a_to_f(p);
     let second = rows_g_to_m(p);
     let third = sentences(p);
-    plus(plus(first, second), third)
+    let fourth = jumps(
+        b"(plant\n(dev 1\n(dev 1\n)\n(dev 1\n)\n)\n(dev 1\n(dev 1\n(dev 1\n)\n)\n(dev 1\n)\n)\n(mark 8\n(own 1)\n(own 2)\n(own 5)\n(own 6)\n(own 7)\n)\n(mark 9\n(own 4)\n(own 7)\n)\n)\n",
+    );
+    plus(plus(first, second), plus(third, fourth))
 }
 
 pub fn print_rows() {

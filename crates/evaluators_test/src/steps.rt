@@ -9,31 +9,36 @@ use crate::cells::list_number;
 use crate::cells::list_start;
 use crate::cells::reach;
 use crate::cells::term;
+use crate::numbers::minus;
 use crate::numbers::next;
 use crate::numbers::number;
 use crate::numbers::plus;
 use crate::numbers::wide;
 use query::Query;
 
-// How a walk ended: the position and the moves.
+// How a walk ended: the position, the postings that its moves passed over, and the moves.
 pub struct Ended {
     pub position: u32,
+    pub passed: u32,
     pub moves: u32,
 }
 
-// Where a walk is: the position, the slot whose cursor comes next, the moves made, and whether the next would be one too many.
+// Where a walk is: the position, the slot whose cursor comes next, the postings passed over, the moves made, and whether the next would be
+// one too many.
 struct State {
     position: u32,
     slot: usize,
+    passed: u32,
     moves: u32,
     is_stopped: bool,
 }
 
 // A walk that goes on.
-fn going(position: u32, slot: usize, moves: u32) -> State {
+fn going(position: u32, slot: usize, passed: u32, moves: u32) -> State {
     State {
         position: position,
         slot: slot,
+        passed: passed,
         moves: moves,
         is_stopped: false,
     }
@@ -84,6 +89,11 @@ fn moved(last: &[u16], root: &[u16], postings: &[u32], at: usize, end: usize, p:
     at + 1
 }
 
+// The postings that a move from one index to another passes over without landing.
+fn between(from: usize, to: usize) -> u32 {
+    minus(number(to), plus(number(from), 1))
+}
+
 // The position after p, at which a forbidden term is carried to it.
 fn beyond(last: &[u16], postings: &[u32], at: usize, p: u32) -> u32 {
     let posting = at32(postings, at);
@@ -99,12 +109,12 @@ fn pass(last: &[u16], postings: &[u32], at: usize, end: usize, s: State) -> Stat
     let k = s.slot;
     let c = stands(last, postings, at, end);
     if k < 8 && p < c {
-        return going(c, 0, s.moves);
+        return going(c, 0, s.passed, s.moves);
     }
     if 8 <= k && carries(last, postings, at, end, p) {
-        return going(beyond(last, postings, at, p), 0, s.moves);
+        return going(beyond(last, postings, at, p), 0, s.passed, s.moves);
     }
-    going(p, next(k), s.moves)
+    going(p, next(k), s.passed, s.moves)
 }
 
 // The turn of the cursor of slot k.
@@ -131,12 +141,14 @@ fn cursor_turn(
         return State {
             position: p,
             slot: k,
+            passed: s.passed,
             moves: moves,
             is_stopped: true,
         };
     }
-    cursors[k] = moved(last, root, postings, at, end, p);
-    going(p, k, moves + 1)
+    let to = moved(last, root, postings, at, end, p);
+    cursors[k] = to;
+    going(p, k, plus(s.passed, between(at, to)), moves + 1)
 }
 
 // One turn: of a cursor, or, when the round has ended, of the position.
@@ -157,10 +169,10 @@ fn turn(
         if is_used(query, k) {
             return cursor_turn(last, root, postings, query.budget, s, cursors, ends[k]);
         }
-        return going(p, next(k), s.moves);
+        return going(p, next(k), s.passed, s.moves);
     }
     list(level, query, p, listed);
-    going(plus(p, 1), 0, s.moves)
+    going(plus(p, 1), 0, s.passed, s.moves)
 }
 
 // Lists p when its code is in the query's range.
@@ -208,7 +220,7 @@ pub fn walk(
     let mut cursors = [0usize; 16];
     let mut ends = [0usize; 16];
     place(terms, starts, postings, query, &mut cursors, &mut ends);
-    let mut s = going(query.start, 0, 0);
+    let mut s = going(query.start, 0, 0, 0);
     let mut turns: u32 = 100000;
     while 0 < turns && s.position <= number(last.len()) && !s.is_stopped {
         s = turn(
@@ -226,6 +238,7 @@ pub fn walk(
     }
     Ended {
         position: s.position,
+        passed: s.passed,
         moves: s.moves,
     }
 }

@@ -1,5 +1,5 @@
 -- What an accepted index is, and what it says of each of its lists.
-use Prim.Native.Nat.{ℕ, zero, suc, _+_, _≤_, _<_}
+use Prim.Native.Nat.{ℕ, zero, suc, _+_, _-_, _≤_, _<_}
 use mathlib.Core.Path.{_≡_, sym}
 use mathlib.Core.Bool.{false, _||_}
 use mathlib.Core.List.{List, [], _∷_}
@@ -79,6 +79,11 @@ rising-of n a (q ∷ qs) h = (h 0 (omega arith) .0, h 0 (omega arith) .1, rising
     step zero u = h 1 (omega arith)
     step (suc k) u = h (suc (suc k)) (omega arith)
 
+-- so there are no more postings than devices
+rising-few : (n a : ℕ) (l : List ℕ) → Rising n a l → length l ≤ n - a
+rising-few n a [] r = omega arith
+rising-few n a (q ∷ qs) r = omega (arith, rising-few n (device q) qs (r .2))
+
 -- what a sound list is, device by device
 module _ {last l : List ℕ} (s : SoundList last l) where
   pub sound-device : (k : ℕ) → k < length l → IsEntry last (device (getD l k 0))
@@ -100,6 +105,12 @@ module _ {last l : List ℕ} (s : SoundList last l) where
 
   pub sound-rising : Rising (length last) 0 l
   sound-rising = rising-of (length last) 0 l above
+
+  pub sound-next : (k : ℕ) → k + 1 < length l → device (getD l k 0) < device (getD l (k + 1) 0)
+  sound-next k u = let e : k + 1 ≡ suc k = omega arith in rw e (above (suc k) (omega arith) .0)
+
+  pub sound-few : length l ≤ length last
+  sound-few = omega (arith, rising-few (length last) 0 l sound-rising)
 
 module _ (P : Plant) (I : Index) (none : tables-refusal P I ≡ 0) where
   -- each list starts no later than it ends, and ends within the postings

@@ -1,21 +1,22 @@
--- The forward step: one posting at a time, by doubling and halving, and as what is left of a list.
+-- The forward step: one posting at a time, and by doubling and halving.
 use Prim.Native.Nat.{ℕ, zero, suc, _+_, _-_, _≤_, _<_, min}
 use native.Mathlib.Omega.{arith}
-use mathlib.Core.Bool.{true, false}
-use mathlib.Core.List.{List, [], _∷_}
-use mathlib.Core.Path.{_≡_, refl, sym, _∙_}
+use mathlib.Core.List.{List, _∷_}
+use mathlib.Core.Path.{_≡_, refl, sym, _∙_, ap}
 use lib.Dec.{leb}
 use lib.ListN.{length, getD, drop}
-use lib.Seq.{drop-drop}
 use borrow.Author.Tests.{le-leb, lt-leb}
-use Rattle.laws.specs.Front.{until}
-use Rattle.laws.proofs.Cases.{by-order, split, split₂}
+use Rattle.laws.proofs.Cases.{by-order}
 use Rattle.laws.proofs.Front.{until-here, until-next, until-end}
-use Rattle.laws.proofs.Tests.{flags}
 use Rattle.index.specs.Postings.{device}
 use Rattle.index.specs.Around.{Around}
-use Rattle.index.proofs.Halving.{closer, all-before}
-use Rattle.index.specs.Forward.{before, forward, Sorted, Sought}
+use Rattle.index.proofs.Halving.{closer, wider, all-before}
+use Rattle.index.specs.Forward.{before, forward, landing, step, Sorted, Sought}
+use Rattle.index.specs.declared.forward.Step.{Step}
+
+-- a step that stays, or begins past the end, passes none
+pub stays : (i j : ℕ) → j ≤ i → record { at = j; passed = 0 } ≡ landing i j
+stays i j h = ap (λ (n : ℕ). record { at = j; passed = n }) (omega arith)
 
 -- ---- one posting at a time
 
@@ -37,6 +38,13 @@ module _ {l : List ℕ} {p d i : ℕ} (a : Ahead l p d i) where
 
   pub ended : length l ≤ i → length l ≡ forward l p d
   ended h = sym (a .same ∙ rw (until-end (λ q. leb d (device q)) l i h) (omega arith))
+
+  -- so the step lands there
+  pub found-step : {r : Step} → i < length l → d ≤ device (getD l i 0) → r ≡ landing p i → r ≡ step l p d
+  found-step h g o = o ∙ ap (landing p) (found h g)
+
+  pub ended-step : {r : Step} → length l ≤ i → r ≡ landing p (length l) → r ≡ step l p d
+  ended-step h o = o ∙ ap (landing p) (ended h)
 
 -- ---- what a forward step has passed
 
@@ -67,17 +75,26 @@ module _ {l : List ℕ} {f d r : ℕ} where
         by-order r (length l) (λ h. found a h (p .after h))
         (λ h. let e : r ≡ length l = omega arith in e ∙ ended a h)
 
--- what `seek` has shown of any list, from a position within it and from one past its end
-pub sought : {l : List ℕ} {f d low high r : ℕ} → f < length l → Around device l f (length l) d low high → Around device l low high d r r → Sought l f d r
-sought {l} {f} h a b =
-    let m : min f (length l) ≡ f = omega arith in
-    record { sorted = λ s. passed-forward (sorted-passed s (closer a b)); any = rw m (closer a b) }
+-- what `seek` has shown of any list: from a position within it, where it stays and where it goes on, and from one past its end
+module _ {l : List ℕ} {f d : ℕ} {r : Step} where
+  sought-at : {at : ℕ} → f < length l → Around device l f (length l) d at at → r ≡ landing f at → Sought l f d r
+  sought-at h a o =
+      let m : min f (length l) ≡ f = omega arith in
+      rw o (record { sorted = λ s. ap (landing f) (passed-forward (sorted-passed s a)); any = rw m a; counted = refl })
 
-pub sought-end : {l : List ℕ} {f d : ℕ} → length l ≤ f → Sought l f d (length l)
-sought-end {l} {f} {d} h = record {
-  sorted = λ s. ended (ahead-here l f d) h;
-  any = record { from = omega arith; ordered = omega arith; to = omega arith; before = λ x. absurd (omega arith); after = λ x. absurd (omega arith) };
-}
+  pub sought-here : f < length l → d ≤ device (getD l f 0) → r ≡ landing f f → Sought l f d r
+  sought-here h g = sought-at h (record { from = omega arith; ordered = omega arith; to = omega arith; before = λ x. absurd (omega arith); after = λ x. g })
+
+  pub sought-on : {low high at : ℕ} → f < length l → device (getD l f 0) < d → Around device l (f + 1) (length l) d low high → Around device l low high d at at
+      → r ≡ landing f at → Sought l f d r
+  sought-on h g a b = sought-at h (wider (closer a b) refl g)
+
+  pub sought-end : length l ≤ f → r ≡ landing f (length l) → Sought l f d r
+  sought-end h o = rw o (record {
+    sorted = λ s. ap (landing f) (ended (ahead-here l f d) h);
+    any = record { from = omega arith; ordered = omega arith; to = omega arith; before = λ x. absurd (omega arith); after = λ x. absurd (omega arith) };
+    counted = refl;
+  })
 
 -- and the forward step is such an index, in any list
 forward-by : (l : List ℕ) (d n f : ℕ) → f + n ≡ length l → Passed l f d (forward l f d)
@@ -102,39 +119,19 @@ forward-by l d (suc n) f h =
 pub forward-passed : (l : List ℕ) (f d : ℕ) → f ≤ length l → Passed l f d (forward l f d)
 forward-passed l f d h = forward-by l d (length l - f) f (omega arith)
 
--- ---- what is left of a list
+-- ---- a step that leaves its posting
 
--- a list without the postings before device d at its front
-unfoldable pub skip : ℕ → List ℕ → List ℕ
-skip d [] = []
-skip d (q ∷ qs) = elim (leb d (device q)) [ true ↦ q ∷ qs | false ↦ skip d qs ]
+module _ (l : List ℕ) (i d : ℕ) (h : i < length l) (g : device (getD l i 0) < d) where
+  -- it goes as from the next posting
+  pub forward-next : forward l i d ≡ suc i + before d (drop (suc i) l)
+  forward-next = let u : i + 1 ≡ suc i = omega arith in rw u at (passed (ahead-here l i d) h g .same) ∙ omega arith
 
-drop-before : (d : ℕ) (l : List ℕ) → drop (before d l) l ≡ skip d l
-unfolding until skip
-drop-before d [] = refl
-drop-before d (q ∷ qs) = split₂ (λ n m. drop n (q ∷ qs) ≡ m) (leb d (device q)) (λ e. refl) (λ e. drop-before d qs)
+  -- and lands on it where that is not before the device
+  pub forward-one : (i + 1 < length l → d ≤ device (getD l (i + 1) 0)) → i + 1 ≡ forward l i d
+  forward-one n =
+      let a = passed (ahead-here l i d) h g in
+      by-order (i + 1) (length l) (λ k. found a k (n k)) (λ k. let e : i + 1 ≡ length l = omega arith in e ∙ ended a k)
 
--- r stands where a forward step from index f to device d leaves off
-pub record Left (l : List ℕ) (f d r : ℕ) : Type 0 where
-  pub from : f ≤ r
-  pub to : r ≤ length l
-  pub same : drop r l ≡ skip d (drop f l)
-
-pub forward-left : {l : List ℕ} {f d r : ℕ} → f ≤ length l → r ≡ forward l f d → Left l f d r
-forward-left {l} {f} {d} h e =
-    let p = forward-passed l f d h in
-    let m : min f (length l) ≡ f = omega arith in
-    let s : drop (f + before d (drop f l)) l ≡ skip d (drop f l) = sym (drop-drop _ f l) ∙ drop-before d (drop f l) in
-    rw e (record { from = p .from; to = p .to; same = rw m s })
-
--- what `seek` gives in a sorted list
-pub sought-left : {l : List ℕ} {f d r : ℕ} → f ≤ length l → Sorted l f → Sought l f d r → Left l f d r
-sought-left h s a = forward-left h (a .sorted s)
-
--- a function F that passes over the postings before device d, and elsewhere is G
-pub skipped {ℓ} : {X : Type ℓ} (F G : List ℕ → X) (d : ℕ) → ((q : ℕ) (qs : List ℕ) → device q < d → F (q ∷ qs) ≡ F qs) → F [] ≡ G []
-    → ((q : ℕ) (qs : List ℕ) → d ≤ device q → F (q ∷ qs) ≡ G (q ∷ qs)) → (l : List ℕ) → F l ≡ G (skip d l)
-unfolding skip
-skipped F G d pass none here [] = none
-skipped F G d pass none here (q ∷ qs) =
-    split (λ m. F (q ∷ qs) ≡ G m) (leb d (device q)) (λ e. here q qs (omega flags)) (λ e. pass q qs (omega flags) ∙ skipped F G d pass none here qs)
+-- the first posting after q that is not before device d
+pub forward-after : (q : ℕ) (qs : List ℕ) (d : ℕ) → forward (q ∷ qs) 1 d ≡ suc (before d qs)
+forward-after q qs d = omega arith

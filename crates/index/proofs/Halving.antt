@@ -18,6 +18,16 @@ module _ {key : ℕ → ℕ} {l : List ℕ} {f e d low high : ℕ} (a : Around k
     after = a .after;
   }
 
+  -- the key of the entry in front of the part is below d too
+  pub wider : {g : ℕ} → f ≡ g + 1 → key (getD l g 0) < d → Around key l g e d low high
+  wider {g} q h = record {
+    from = omega arith;
+    ordered = a .ordered;
+    to = a .to;
+    before = λ _. by-order f low (a .before) (λ k. let u : low - 1 ≡ g = omega arith in rw u h);
+    after = a .after;
+  }
+
   -- low has come to high
   pub met : high ≤ low → Around key l f e d low low
   met h = let q : high ≡ low = omega arith in rw q at a

@@ -1,37 +1,67 @@
 // The forward step on a list of postings: over any list by a scan, and over a sorted one by doubling and halving.
 ghost use mathlib.Core.Path.{_≡_};
-ghost use Prim.Native.Nat.{_≤_};
+ghost use Prim.Native.Nat.{_≤_, _<_};
 ghost use lib.ListN.{length};
 ghost use Rattle.index.specs.Postings.{device};
-ghost use Rattle.index.specs.Forward.{forward, Sought};
+ghost use Rattle.index.specs.Forward.{landing, step, Sought};
 ghost use Rattle.index.specs.Around.{Around};
 ghost use Rattle.index.specs.inner.Parts.{Part};
 
-// The first index from `position` on whose device is at least `target`, or the length. The list need not be sorted.
-pub fn first_at_least(list: &[u32], position: usize, target: u32) -> usize
-    ensures { λ r. ⌜ r ≡ forward (now (list .entry)) position target ⌝ }
+// Where a forward step lands, and how many postings it passed over without landing.
+pub struct Step {
+    pub at: usize,
+    pub passed: usize,
+}
+
+// The step from index `from` to a later one: what lies between them was passed over.
+fn step_on(from: usize, at: usize) -> Step
+    requires { ⌜ from < at ⌝ }
+    ensures { λ r. ⌜ r ≡ landing from at ⌝ }
+{
+    Step {
+        at,
+        passed: at - from - 1,
+    }
+}
+
+// The same to any index. A step that stays, or begins past the end, passes none.
+fn step_to(from: usize, at: usize) -> Step
+    ensures { λ r. ⌜ r ≡ landing from at ⌝ }
+{
+    if at <= from {
+        return Step { at, passed: 0 };
+    }
+    step_on(from, at)
+}
+
+// The step from `position` to the first posting whose device is at least `target`, or to the length. The list need not be sorted.
+pub fn first_at_least(list: &[u32], position: usize, target: u32) -> Step
+    ensures { λ r. ⌜ r ≡ step (now (list .entry)) position target ⌝ }
 {
     let mut i = position;
     while i < list.len() {
         if target <= list[i] / 2 {
-            return i;
+            return step_to(position, i);
         }
         i += 1;
     }
-    list.len()
+    step_to(position, list.len())
 }
 
 // The same for a list that is sorted from `position` on, in time that grows with the logarithm of the postings passed.
-pub fn seek(list: &[u32], position: usize, target: u32) -> usize
+pub fn seek(list: &[u32], position: usize, target: u32) -> Step
     ensures { λ r. ⌜ Sought (now (list .entry)) position target r ⌝ }
 {
     if list.len() <= position {
-        return list.len();
+        return step_to(position, list.len());
     }
-    let span = gallop(list, position, target);
+    if target <= list[position] / 2 {
+        return step_to(position, position);
+    }
+    let span = gallop(list, position + 1, target);
     let low = span.low;
     let high = span.high;
-    bisect(list, low, high, target)
+    step_on(position, bisect(list, low, high, target))
 }
 
 struct Span {

@@ -4,6 +4,7 @@ mod list;
 mod postings;
 mod refusals;
 
+pub use forward::Step;
 pub use forward::first_at_least;
 pub use forward::seek;
 pub use list::list_at;

@@ -1,6 +1,6 @@
--- A call of `first_at_least` on the list and the position that a cursor holds, for the proof of a caller. The cursor is Copy: of one copy of what it owns, what list owns goes to the callee, and the other is kept.
+-- A call of `first_at_least` on the list and the position that a cursor holds, for the proof of a caller. The cursor is Copy: of one copy of what it owns, what its list owns goes to the callee, and the other is kept.
 --     asks      what the cursor owns ∗ the token  ⊢  what `first_at_least` asks ∗ what the cursor owns
---     leaves    what `first_at_least` leaves  ⊢ ⇛ (the index ∗ the token)
+--     leaves    what `first_at_least` leaves  ⊢ ⇛ (what the step owns ∗ the token)
 --     moves     what the cursor owns  ⊢  what the cursor moved forward owns
 -- All that is known of `first_at_least` is its contract. Assumes `Given`.
 use mathlib.Core.Path.{_≡_, refl}
@@ -22,7 +22,7 @@ use denote.RattleType.{owns}
 use denote.Laws.{Is}
 use denote.Plain.{uint-makes}
 use denote.Builtin.{u32, usize}
-use denote.Ref.{NamedLft, now}
+use denote.Ref.{NamedLft}
 use denote.Slice.{sliceVal, ShrSlice}
 use denote.Steps.{owned, heard, nothing}
 use denote.Struct.Declared.{Declared}
@@ -33,11 +33,12 @@ use denote.Triple.Statement.{Contract}
 use denote.Triple.Entry.{Vals, onEntry}
 use denote.Triple.Spec.{tripleOf}
 use denote.Triple.Clauses.{ensured, lasts}
-use Rattle.index.specs.Forward.{forward}
-use Rattle.posting_cursor.specs.Cursor.{forwarded}
+use Rattle.index.specs.declared.forward.Step.{Step}
+use Rattle.posting_cursor.specs.Cursor.{stepped, forwarded}
 use Rattle.posting_cursor.specs.declared.PostingCursor.{PostingCursor}
 use Rattle.posting_cursor.proofs.PostingCursor as T
 use Rattle.posting_cursor.proofs.PostingCursor.Laws as T′
+use Rattle.index.proofs.forward.Step as S
 use Rattle.index.proofs.first_at_least as scan
 
 module _ {M : Type 1} (𝓤 : URA M) (H : Heap 𝓤) (A : Atoms 𝓤) (mem : Memory → SProp 𝓤) (run : Routine → Fun 𝓤) where
@@ -65,8 +66,8 @@ module _ {M : Type 1} (𝓤 : URA M) (H : Heap 𝓤) (A : Atoms 𝓤) (W : Given
   abbrev Own : Fml
   Own = T.the-row α .own c (mach ∷ [])
 
-  abbrev found : ℕ
-  found = forward (now (c .list)) (c .position) n
+  abbrev found : Step
+  found = stepped c n
 
   -- what the callee is passed, and what its triple binds outside
   abbrev passed : Vals scan.signature (κ, tt)
@@ -87,15 +88,15 @@ module _ {M : Type 1} (𝓤 : URA M) (H : Heap 𝓤) (A : Atoms 𝓤) (W : Given
       move ! (2 ∷ 0 ∷ []) $ use2 W (raw (Scan 𝓤 H A mem run .pre to)) enters $ frame ! $ done !)
 
   -- of the callee's `ensured`, the clause alone: it has no `&mut`, so what is said of last values is dropped
-  said : (r : ℕ) → ent 𝓤 (ensured 𝓤 H A scan.ended (scan.clauses 𝓤 H A mem run) (κ, tt) (c .list, (c .position, (n, tt))) tt r) (fact 𝓤 (r ≡ found))
+  said : (r : Step) → ent 𝓤 (ensured 𝓤 H A scan.ended (scan.clauses 𝓤 H A mem run) (κ, tt) (c .list, (c .position, (n, tt))) tt r) (fact 𝓤 (r ≡ found))
   said r = exE 𝓤 _ (λ ws. snd∗ 𝓤 (sem 𝓤 H A (lasts scan.ended (κ, tt) (c .list, (c .position, (n, tt))) ws)) (fact 𝓤 (r ≡ found)))
 
-  pub leaves : (u : Val) → ent 𝓤 (Scan 𝓤 H A mem run .post to u) (H .⇛ (sep 𝓤 (sem 𝓤 H A (usize .own found (u ∷ []))) (sep 𝓤 (A .lft κ q) (emp 𝓤))))
+  pub leaves : (u : Val) → ent 𝓤 (Scan 𝓤 H A mem run .post to u) (H .⇛ (sep 𝓤 (sem 𝓤 H A (S.the-row .own found (u ∷ []))) (sep 𝓤 (A .lft κ q) (emp 𝓤))))
   leaves u =
       qed W (raw (Scan 𝓤 H A mem run .post to u) ∷ []) ∵ updating ! $
-      use1 W (later (some (λ (r : ℕ). ((‵ (flft κ q) ⊛ ‵ ftrue) ⊛ ‵ (usize .own r (u ∷ []))) ⊛ raw (ensured 𝓤 H A scan.ended (scan.clauses 𝓤 H A mem run) (κ, tt) (c .list, (c .position, (n, tt))) tt r)))) (id⊢ 𝓤 _) $ await ! tt $ pick ! (λ r.
-      split ! $ move ! (1 ∷ []) $ use1 W (raw (fact 𝓤 (r ≡ found))) (said r) $ heard ! (r ≡ found) (λ e. split ! $ move ! (1 ∷ []) $ rewrite ! 0 (λ (i : ℕ). ‵ (usize .own i (u ∷ []))) e refl $ at-once ! $ done !))
+      use1 W (later (some (λ (r : Step). ((‵ (flft κ q) ⊛ ‵ ftrue) ⊛ ‵ (S.the-row .own r (u ∷ []))) ⊛ raw (ensured 𝓤 H A scan.ended (scan.clauses 𝓤 H A mem run) (κ, tt) (c .list, (c .position, (n, tt))) tt r)))) (id⊢ 𝓤 _) $ await ! tt $ pick ! (λ r.
+      split ! $ move ! (1 ∷ []) $ use1 W (raw (fact 𝓤 (r ≡ found))) (said r) $ heard ! (r ≡ found) (λ e. split ! $ move ! (1 ∷ []) $ rewrite ! 0 (λ (x : Step). ‵ (S.the-row .own x (u ∷ []))) e refl $ at-once ! $ done !))
 
-  -- the index's facts take the place of position's
-  pub moves : found < 2 ^ 64 → ent 𝓤 (sem 𝓤 H A Own) (sem 𝓤 H A (T.the-row α .own (forwarded c n) (T′.lowered (forwarded c n) ∷ [])))
-  moves fits = qed W (‵ Own ∷ []) ∵ owned ! usize (Is usize) (uint-makes 𝓤 H A W w64) found _ (refl, fits) $ move ! (1 ∷ 0 ∷ []) $ by ! (own-put 𝓤 H A W D L 1 fields found mach)
+  -- the facts of where the step lands take the place of position's
+  pub moves : found .at < 2 ^ 64 → ent 𝓤 (sem 𝓤 H A Own) (sem 𝓤 H A (T.the-row α .own (forwarded c n) (T′.lowered (forwarded c n) ∷ [])))
+  moves fits = qed W (‵ Own ∷ []) ∵ owned ! usize (Is usize) (uint-makes 𝓤 H A W w64) (found .at) _ (refl, fits) $ move ! (1 ∷ 0 ∷ []) $ by ! (own-put 𝓤 H A W D L 1 fields (found .at) mach)

@@ -11,7 +11,7 @@ use Rattle.text.specs.inner.Puts.{Puts}
 use Rattle.text.proofs.Numerals.{numeral-short}
 use Rattle.text.proofs.Writing.{puts, puts-none, _then_}
 use Rattle.respond.specs.inner.Prints.{answer-bytes}
-use Rattle.respond.specs.Lines.{word-answer, word-device, word-place, word-moves, ending, numbered, numbered₂, device-lines, answer-text}
+use Rattle.respond.specs.Lines.{word-answer, word-device, word-place, word-passed, word-moves, ending, numbered, numbered₂, device-lines, answer-text}
 
 -- the bytes of a line whose number is below a power of ten, and of one with two numbers
 pub numbered-short : (w : List ℕ) (k n : ℕ) → n < 10 ^ suc k → length (numbered w n) ≤ length w + suc k + 2
@@ -60,14 +60,15 @@ module _ {l : List ℕ} {at : ℕ} {listing : List ℕ} where
     devices-put h = rw (take-all i listing h) at (p .put)
 
 -- the parts of an answer, one after another, and how long it is with numbers of ten digits
-module _ (listing : List ℕ) (position moves : ℕ) where
-  pub answer-put : {l l₁ l₂ l₃ l₄ l₅ : List ℕ} {i₁ i₂ i₃ i₄ count : ℕ} → Writes l 0 word-answer l₁ i₁ → Puts l₁ i₁ (device-lines listing) l₂ i₂ →
-      Puts l₂ i₂ (numbered word-place position) l₃ i₃ → Puts l₃ i₃ (numbered word-moves moves) l₄ i₄ → Writes l₄ i₄ ending l₅ count →
-      Puts l 0 (answer-text listing position moves) l₅ (i₄ + count)
+module _ (listing : List ℕ) (position passed moves : ℕ) where
+  pub answer-put : {l l₁ l₂ l₃ l₄ l₅ l₆ : List ℕ} {i₁ i₂ i₃ i₄ i₅ count : ℕ} → Writes l 0 word-answer l₁ i₁ → Puts l₁ i₁ (device-lines listing) l₂ i₂ →
+      Puts l₂ i₂ (numbered word-place position) l₃ i₃ → Puts l₃ i₃ (numbered word-passed passed) l₄ i₄ → Puts l₄ i₄ (numbered word-moves moves) l₅ i₅ →
+      Writes l₅ i₅ ending l₆ count → Puts l 0 (answer-text listing position passed moves) l₆ (i₅ + count)
   unfolding answer-text
-  answer-put {i₁} a b c d e = let z : 0 + i₁ ≡ i₁ = omega arith in (rw z at (puts a)) then b then c then d then puts e
+  answer-put {i₁} a b c d e f = let z : 0 + i₁ ≡ i₁ = omega arith in (rw z at (puts a)) then b then c then d then e then puts f
 
-  pub answer-short : ((i : ℕ) → getD listing i 0 < 65536) → position < 10 ^ 10 → moves < 10 ^ 10 →
-      length (answer-text listing position moves) ≤ answer-bytes (length listing)
+  pub answer-short : ((i : ℕ) → getD listing i 0 < 65536) → position < 10 ^ 10 → passed < 10 ^ 10 → moves < 10 ^ 10 →
+      length (answer-text listing position passed moves) ≤ answer-bytes (length listing)
   unfolding answer-text
-  answer-short h p m = simp length-append (omega (arith, devices-short listing h, numeral-short 9 position p, numeral-short 9 moves m))
+  answer-short h p j m =
+      simp length-append (omega (arith, devices-short listing h, numeral-short 9 position p, numeral-short 9 passed j, numeral-short 9 moves m))

@@ -25,7 +25,7 @@ run-refused a zero e t h = absurd (h (ap (λ x. x .refusal) t))
 run-refused a (suc n) e t h = rw t
 
 pub run-listed : (a : Answer) (n : ℕ) (e : End) (out out′ : List ℕ) → a ≡ answer-of n e → out′ ≡ written n e out → a .refusal ≡ 0 →
-    answer-text (take (a .count) out′) (a .position) (a .moves) ≡ of-run n e
+    answer-text (take (a .count) out′) (a .position) (a .passed) (a .moves) ≡ of-run n e
 run-listed a zero e out out′ t w h = rw (t, w, take-append-seam)
 run-listed a (suc n) e out out′ t w h = absurd (omega (arith, ap (λ x. x .refusal) t))
 

@@ -15,6 +15,10 @@ word-device = 40 ∷ 100 ∷ 101 ∷ 118 ∷ 105 ∷ 99 ∷ 101 ∷ 32 ∷ []
 abbrev pub word-place : List ℕ
 word-place = 40 ∷ 112 ∷ 108 ∷ 97 ∷ 99 ∷ 101 ∷ 32 ∷ []
 
+-- `(passed` and a space
+abbrev pub word-passed : List ℕ
+word-passed = 40 ∷ 112 ∷ 97 ∷ 115 ∷ 115 ∷ 101 ∷ 100 ∷ 32 ∷ []
+
 -- `(moves` and a space
 abbrev pub word-moves : List ℕ
 word-moves = 40 ∷ 109 ∷ 111 ∷ 118 ∷ 101 ∷ 115 ∷ 32 ∷ []
@@ -48,7 +52,9 @@ unfoldable pub device-lines : List ℕ → List ℕ
 device-lines [] = []
 device-lines (d ∷ ds) = numbered word-device d ++ device-lines ds
 
--- "Between the opening and the closing line, device lines are the listing, then come the place and the moves spent."
-unfoldable pub answer-text : List ℕ → ℕ → ℕ → List ℕ
-answer-text listing position moves =
-    word-answer ++ (device-lines listing ++ (numbered word-place position ++ (numbered word-moves moves ++ ending)))
+-- "Between the opening and the closing line, device lines are the listing, then come the place and the moves spent." In document 02:
+-- "`(passed n)` is printed between place and moves, amending document 01's printed answer."
+unfoldable pub answer-text : List ℕ → ℕ → ℕ → ℕ → List ℕ
+answer-text listing position passed moves =
+    word-answer
+    ++ (device-lines listing ++ (numbered word-place position ++ (numbered word-passed passed ++ (numbered word-moves moves ++ ending))))

@@ -23,7 +23,7 @@ program-room = record { devices = device-room; terms = term-room; postings = pos
 
 -- `(refused query 13)`, or the answer
 abbrev pub of-run : ℕ → End → List ℕ
-of-run zero e = answer-text (e .listed) (e .position) (e .counts .moves)
+of-run zero e = answer-text (e .listed) (e .position) (e .counts .passed) (e .counts .moves)
 of-run (suc n) e = numbered word-query (suc n)
 
 abbrev pub of-search : Plant → Index → Query → List ℕ

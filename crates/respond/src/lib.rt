@@ -106,5 +106,5 @@ fn respond_search(
         return put_numbered(out, 0, b"(refused query ", refusal);
     }
     let n = a.count as usize;
-    put_answer(out, &listing[..n], a.position, a.moves)
+    put_answer(out, &listing[..n], a.position, a.passed, a.moves)
 }

@@ -46,13 +46,14 @@ fn put_devices(out: &mut [u8], at: usize, listing: &[u16]) -> usize
 }
 
 // The whole of an answer, from the start of the buffer.
-pub fn put_answer(out: &mut [u8], listing: &[u16], position: u32, moves: u32) -> usize
-    ensures puts { λ r. ⌜ Puts (now (out .entry)) 0 («answer-text» (now (listing .entry)) position moves) (now (out .exit)) r ⌝ }
-    ensures few { λ _. ⌜ length («answer-text» (now (listing .entry)) position moves) ≤ «answer-bytes» (length (now (listing .entry))) ⌝ }
+pub fn put_answer(out: &mut [u8], listing: &[u16], position: u32, passed: u32, moves: u32) -> usize
+    ensures puts { λ r. ⌜ Puts (now (out .entry)) 0 («answer-text» (now (listing .entry)) position passed moves) (now (out .exit)) r ⌝ }
+    ensures few { λ _. ⌜ length («answer-text» (now (listing .entry)) position passed moves) ≤ «answer-bytes» (length (now (listing .entry))) ⌝ }
 {
     let first = put_word(out, 0, b"(answer\n");
     let devices = put_devices(out, first, listing);
     let place = put_numbered(out, devices, b"(place ", position);
-    let end = put_numbered(out, place, b"(moves ", moves);
+    let next = put_numbered(out, place, b"(passed ", passed);
+    let end = put_numbered(out, next, b"(moves ", moves);
     end + put_word(out, end, b")\n")
 }

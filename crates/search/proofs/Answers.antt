@@ -48,7 +48,7 @@ admitted P I q n h =
     let s = plants.accepted P (t .tables) in
     record {
       forest = s;
-      tables = record { same = s .roots; few = s .few; inside = λ d e. s .inside d (e .first) (e .last) };
+      tables = record { same = s .roots; few = s .few; held = λ d e. s .own d (e .first) (e .last); inside = λ d e. s .inside d (e .first) (e .last) };
       terms = t .terms-rise;
       list = accepted-list-of P I (a .0);
       query = accepted-search (size P) n q (a .1);
@@ -101,7 +101,7 @@ module _ (P : Plant) (I : Index) (q : Query) (room : ℕ) {t : ℕ} (e : t ≡ i
 
 -- ---- the answer
 
-answer-refused : (n : ℕ) (e : End) → (n ≡ 0 → ⊥) → record { refusal = n; count = 0; position = 0; moves = 0 } ≡ answer-of n e
+answer-refused : (n : ℕ) (e : End) → (n ≡ 0 → ⊥) → record { refusal = n; count = 0; position = 0; passed = 0; moves = 0 } ≡ answer-of n e
 answer-refused zero e h = absurd (h refl)
 answer-refused (suc n) e h = refl
 
@@ -111,20 +111,21 @@ written-refused (suc n) e out h = refl
 
 -- the theorem: all that is promised of an accepted query holds of how its steps end
 pub promised : (P : Plant) (I : Index) (q : Query) (room : ℕ) → search-refusal P I q room ≡ 0 →
-    Promised P I q (ended P I q (q .budget) .listed) (ended P I q (q .budget) .position) (ended P I q (q .budget) .counts .moves)
+    Promised P I q (ended P I q (q .budget) .listed) (ended P I q (q .budget) .position) (ended P I q (q .budget) .counts .passed)
+    (ended P I q (q .budget) .counts .moves)
 unfolding ended
 promised P I q room h =
     let a = admitted P I q room h in
     let k = a .query .query in
     record {
       lists = lists-exactly P (a .forest) (list-of I) (λ t. sound-rising (a .list t)) (criteria P q) (k .from-first) (k .to-end) (omega arith) (q .budget);
-      passed = ended P I q (q .budget) .counts .passed;
       short = ended P I q (q .budget) .short;
+      cursors = ended P I q (q .budget) .cursors;
       budget = keeps-budget P (a .forest) (list-of I) (λ t. sound-rising (a .list t)) (criteria P q) (k .from-first) (k .to-end) (omega arith) (q .budget);
     }
 
 module _ (P : Plant) (I : Index) (q : Query) {out : List ℕ} {n : ℕ} (e : n ≡ search-refusal P I q (length out)) where
-  pub searched-refused : (n ≡ 0 → ⊥) → Searched P I q out out (record { refusal = n; count = 0; position = 0; moves = 0 })
+  pub searched-refused : (n ≡ 0 → ⊥) → Searched P I q out out (record { refusal = n; count = 0; position = 0; passed = 0; moves = 0 })
   searched-refused z = record {
     answers = rw e (answer-refused (search-refusal P I q (length out)) _ (λ o. z (e ∙ o)));
     lists = written-refused (search-refusal P I q (length out)) _ out (λ o. z (e ∙ o));
@@ -132,13 +133,13 @@ module _ (P : Plant) (I : Index) (q : Query) {out : List ℕ} {n : ℕ} (e : n �
   }
 
   pub searched : {out′ : List ℕ} {r : Listing} → n ≡ 0 → RunGives (ended P I q (q .budget)) out out′ r
-      → Searched P I q out out′ (record { refusal = 0; count = r .count; position = r .position; moves = r .moves })
+      → Searched P I q out out′ (record { refusal = 0; count = r .count; position = r .position; passed = r .passed; moves = r .moves })
   searched {out′} {r} z x =
       let o : search-refusal P I q (length out) ≡ 0 = sym e ∙ z in
       let listed = ended P I q (q .budget) .listed in
       let t : take (length listed) out′ ≡ listed = rw (x .written) (take-at listed _ (length listed) refl) in
       record {
-        answers = rw (o, x .count, x .position, x .moves);
+        answers = rw (o, x .count, x .position, x .passed, x .moves);
         lists = rw o (x .written);
-        promised = λ _. rw (x .count, x .position, x .moves, t) (promised P I q (length out) o);
+        promised = λ _. rw (x .count, x .position, x .passed, x .moves, t) (promised P I q (length out) o);
       }

@@ -35,23 +35,23 @@ abbrev pub most : ℕ
 most = empty .budget
 
 -- a row: the answer to the query, the answer list of six zeros afterwards, and what matches before the position
-pub record Row (q : Query) (listed : List ℕ) (position moves : ℕ) : Type 0 where
-  pub answers : answer P I q 6 ≡ record { refusal = 0; count = length listed; position = position; moves = moves }
+pub record Row (q : Query) (listed : List ℕ) (position passed moves : ℕ) : Type 0 where
+  pub answers : answer P I q 6 ≡ record { refusal = 0; count = length listed; position = position; passed = passed; moves = moves }
   pub lists : answer-list P I q (replicate 6 0) ≡ listed ++ replicate (6 - length listed) 0
   pub exact : matching (matches (P .last) (list-of I) (criteria P q)) (position - 1) 1 ≡ listed
 
 -- rows a to j, in that order
 pub rows :
-    Row (query (7 ∷ []) [] Levels.Any most) (2 ∷ 3 ∷ 5 ∷ []) 7 2
-    × Row (query (9 ∷ []) [] Levels.Any most) (4 ∷ 5 ∷ 6 ∷ []) 7 0
-    × Row (query (7 ∷ []) (9 ∷ []) Levels.Any most) (2 ∷ 3 ∷ []) 7 1
-    × Row (query (9 ∷ []) (7 ∷ []) Levels.Any most) (4 ∷ 6 ∷ []) 7 2
-    × Row (query (7 ∷ []) [] (Levels.Range 100 140) most) (2 ∷ []) 7 2
-    × Row (query (7 ∷ []) (9 ∷ []) Levels.Any 0) (2 ∷ 3 ∷ []) 4 0
-    × Row (query (8 ∷ []) [] Levels.Any most) [] 7 0
-    × Row (query [] (8 ∷ []) Levels.Any most) (1 ∷ 2 ∷ 3 ∷ 4 ∷ 5 ∷ 6 ∷ []) 7 0
-    × Row (query (7 ∷ []) (7 ∷ []) Levels.Any most) [] 7 3
-    × Row (query [] [] (Levels.Range 0 254) most) (1 ∷ 2 ∷ 4 ∷ 5 ∷ 6 ∷ []) 7 0
+    Row (query (7 ∷ []) [] Levels.Any most) (2 ∷ 3 ∷ 5 ∷ []) 7 0 2
+    × Row (query (9 ∷ []) [] Levels.Any most) (4 ∷ 5 ∷ 6 ∷ []) 7 0 0
+    × Row (query (7 ∷ []) (9 ∷ []) Levels.Any most) (2 ∷ 3 ∷ []) 7 0 1
+    × Row (query (9 ∷ []) (7 ∷ []) Levels.Any most) (4 ∷ 6 ∷ []) 7 0 2
+    × Row (query (7 ∷ []) [] (Levels.Range 100 140) most) (2 ∷ []) 7 0 2
+    × Row (query (7 ∷ []) (9 ∷ []) Levels.Any 0) (2 ∷ 3 ∷ []) 4 0 0
+    × Row (query (8 ∷ []) [] Levels.Any most) [] 7 0 0
+    × Row (query [] (8 ∷ []) Levels.Any most) (1 ∷ 2 ∷ 3 ∷ 4 ∷ 5 ∷ 6 ∷ []) 7 0 0
+    × Row (query (7 ∷ []) (7 ∷ []) Levels.Any most) [] 7 0 3
+    × Row (query [] [] (Levels.Range 0 254) most) (1 ∷ 2 ∷ 4 ∷ 5 ∷ 6 ∷ []) 7 0 0
 unfolding plants.plant-refusal indexes.tables-refusal indexes.index-rows common-refusal query-refusal search-refusal terms-of ended run round bring until any lowest matching every member unshared count-up
 rows = (
   record { answers = refl; lists = refl; exact = refl },

@@ -1,5 +1,5 @@
 -- Laws of a round of all cursors by index, on plain values.
-use Prim.Native.Nat.{ℕ, suc, _+_, _-_, _≤_, _<_, min}
+use Prim.Native.Nat.{ℕ, suc, _+_, _-_, _*_, _≤_, _<_, min}
 use native.Mathlib.Omega.{arith}
 use native.Mathlib.Numerals.{add-one}
 use native.Mathlib.Nat.{zero-add, add-zero}
@@ -10,14 +10,16 @@ use denote.Ref.{RefT, now}
 use lib.Dec.{ltb}
 use lib.ListN.{length, getD, take, drop, set, length-set, List·getD-map}
 use lib.Seq.{drop-cons, take-suc, split-at, drop-length, take-length, length-take-le, getD-set-same, getD-set-other}
+use Rattle.laws.specs.Limits.{most-devices, largest-number}
 use Rattle.laws.proofs.Cases.{by-order}
+use Rattle.index.proofs.Accepted.{sound-few}
 use Rattle.steps.specs.Moves.{Counts, plus}
 use Rattle.steps.specs.Steps as runs
 use Rattle.steps.specs.Steps.{required, forbidden, Outcome, accepts, again, stops, outcome, unmoved-all, onto, round}
 use Rattle.steps.proofs.Counts.{round-by}
 use Rattle.steps.proofs.Rounds.{asks}
 use Rattle.steps.proofs.Stretch.{Rests, rests-on, rests-outcome, Accept}
-use Rattle.search.specs.inner.Cursors.{most-cursors, Cursor, Brings, side-of, cursors, Valid, Turns}
+use Rattle.search.specs.inner.Cursors.{most-cursors, most-passed, Cursor, Tables, Brings, side-of, cursors, Valid, Turns}
 use Rattle.search.specs.declared.cursor.CursorAt.{CursorAt}
 use Rattle.search.specs.declared.run.RoundEnd.{RoundEnd}
 
@@ -113,18 +115,20 @@ abbrev pub counts : ℕ → ℕ → Counts
 counts m p = record { moves = m; passed = p }
 
 -- the cursors before i, of n, are done, and accept each position from p to `to`: those from i on, with the moves left, give what the whole gives
-pub record Doing (last root : List ℕ) (ls : List (List ℕ)) (n k end p budget m₀ : ℕ) (x₀ x : List ℕ) (m to i : ℕ) : Type 0 where
+pub record Doing (last root : List ℕ) (ls : List (List ℕ)) (n k end p budget m₀ s₀ : ℕ) (x₀ x : List ℕ) (m s to i : ℕ) : Type 0 where
   pub count : length ls ≡ n
   pub valid : Valid last ls x
   pub within : i ≤ length ls
-  pub passed : ℕ
+  pub devices : length last ≤ most-devices
+  pub further : s₀ ≤ s
+  pub small : s ≤ s₀ + i * most-devices
   pub more : m₀ ≤ m
   pub few : m ≤ budget
   pub from : p ≤ to
   pub inside : to < end
   pub bound : to ≤ length last
   pub same : round last root end p (budget - m₀) (cursors k x₀ 0 ls)
-      ≡ leads (cursors k x 0 (take i ls)) (counts (m - m₀) passed) (round last root end p (budget - m) (cursors k x i (drop i ls)))
+      ≡ leads (cursors k x 0 (take i ls)) (counts (m - m₀) (s - s₀)) (round last root end p (budget - m) (cursors k x i (drop i ls)))
   pub steady : (q : ℕ) → p ≤ q → q ≤ to → Accept last end q (cursors k x 0 (take i ls))
 
 round-same : {cs ds : List runs.Cursor} {m n p q : ℕ} {o : Outcome} → cs ≡ ds → m ≡ n → p ≡ q
@@ -139,32 +143,34 @@ accept-more last end q (d ∷ ds) c a e = (a .0, accept-more last end q ds c (a 
 leads-none : (r : runs.Round) → r ≡ leads [] (counts 0 0) r
 leads-none r = ap (λ n. record { cursors = r .cursors; counts = n; outcome = r .outcome }) (ap₂ counts (omega arith) (omega arith))
 
-pub doing-start : {last root : List ℕ} {ls : List (List ℕ)} {n k end p budget m : ℕ} {x : List ℕ} → Valid last ls x → p < end → end ≤ length last + 1 → m ≤ budget → length ls ≡ n
-    → Doing last root ls n k end p budget m x x m (end - 1) 0
+pub doing-start : {last root : List ℕ} {ls : List (List ℕ)} {n k end p budget m s : ℕ} {x : List ℕ} → Tables last root → Valid last ls x → p < end → end ≤ length last + 1 → m ≤ budget → length ls ≡ n
+    → Doing last root ls n k end p budget m s x x m s (end - 1) 0
 unfolding cursors
-doing-start {m} v h w b e = let u : m - m ≡ 0 = omega arith in record {
+doing-start {m} {s} t v h w b e = let u : m - m ≡ 0 = omega arith in let z : s - s ≡ 0 = omega arith in record {
   count = e;
-  passed = 0;
   valid = v;
+  devices = t .few;
+  further = omega arith;
+  small = omega arith;
   within = omega arith;
   more = omega arith;
   few = b;
   from = omega arith;
   inside = omega arith;
   bound = omega arith;
-  same = rw u (leads-none _);
+  same = rw (u, z) (leads-none _);
   steady = λ q a b. tt;
 }
 
-module _ {last root : List ℕ} {ls : List (List ℕ)} {n k end p budget m₀ : ℕ} {x₀ x : List ℕ} {m to i : ℕ}
-    (a : Doing last root ls n k end p budget m₀ x₀ x m to i) where
-  pub doing-ends : n ≤ i → {r : RoundEnd} → r ≡ record { moves = m; to = to; accepted = true; stop = false } → Turns last root ls k end p budget m₀ x₀ x r
+module _ {last root : List ℕ} {ls : List (List ℕ)} {n k end p budget m₀ s₀ : ℕ} {x₀ x : List ℕ} {m s to i : ℕ}
+    (a : Doing last root ls n k end p budget m₀ s₀ x₀ x m s to i) where
+  pub doing-ends : n ≤ i → {r : RoundEnd} → r ≡ record { moves = m; passed = s; to = to; accepted = true; stop = false } → Turns last root ls k end p budget m₀ s₀ x₀ x r
   unfolding cursors round
   doing-ends h o = let e : i ≡ length ls = omega arith in rw o (record {
     valid = a .valid;
-    passed = a .passed;
     more = a .more;
     few = a .few;
+    further = a .further;
     from = a .from;
     same = a .same ∙ rw (e, drop-length, take-length, append-nil) (round-same refl (omega arith) (omega arith));
     bound = λ z. a .bound;
@@ -182,10 +188,14 @@ module _ {last root : List ℕ} {ls : List (List ℕ)} {n k end p budget m₀ : 
     pub in-array : i < most-cursors
     in-array = let l = inside in omega arith
 
+    -- what the cursors before it passed over fits
+    pub skips : s₀ ≤ most-passed → s ≤ largest-number
+    skips h = let l = in-array in omega (arith, a .small)
+
     pub here : {l : List ℕ} → l ≡ getD ls i [] → Cursor last l (getD x i 0)
     here e = rw e (a .valid .each i inside)
 
-    module _ {l : List ℕ} {b : CursorAt} (g : Brings last root l end p budget m (getD x i 0) b) (o : l ≡ getD ls i []) where
+    module _ {l : List ℕ} {b : CursorAt} (g : Brings last root l end p budget m s (getD x i 0) b) (o : l ≡ getD ls i []) where
       abbrev x′ : List ℕ
       x′ = set x i (b .at)
 
@@ -195,14 +205,14 @@ module _ {last root : List ℕ} {ls : List (List ℕ)} {n k end p budget m₀ : 
       abbrev rest : List runs.Cursor
       rest = cursors k x (i + 1) (drop (i + 1) ls)
 
-      -- what has been passed over
-      abbrev passed : ℕ
-      passed = a .passed + (b .at - getD x i 0 - (b .moves - m))
+      -- no more has been passed over than there are devices, by each cursor
+      few-passed : b .passed ≤ s₀ + (i + 1) * most-devices
+      few-passed = omega (arith, a .small, a .devices, g .bounded, sound-few (here o .sound))
 
       -- the round from cursor i on, by what comes of that cursor
       first : (c : Outcome) → outcome last end p (side-of k i) (drop (b .at) l) ≡ c →
           round last root end p (budget - m) (cursors k x i (drop i ls))
-          ≡ onto (placed k i l (b .at)) (counts (b .moves - m) (b .at - getD x i 0 - (b .moves - m))) (elim c [
+          ≡ onto (placed k i l (b .at)) (counts (b .moves - m) (b .passed - s)) (elim c [
             | accepts ↦ round last root end p (budget - m - (b .moves - m)) rest
             | again q ↦ unmoved-all rest (again q)
             | stops ↦ unmoved-all rest stops
@@ -214,19 +224,19 @@ module _ {last root : List ℕ} {ls : List (List ℕ)} {n k end p budget m₀ : 
         | accepts ↦ round last root end p (budget - m - (b .moves - m)) rest
         | again q ↦ unmoved-all rest (again q)
         | stops ↦ unmoved-all rest stops
-      ]) → round last root end p (budget - m₀) (cursors k x₀ 0 ls) ≡ record { cursors = cursors k x′ 0 ls; counts = counts (b .moves - m₀) passed; outcome = c }
+      ]) → round last root end p (budget - m₀) (cursors k x₀ 0 ls) ≡ record { cursors = cursors k x′ 0 ls; counts = counts (b .moves - m₀) (b .passed - s₀); outcome = c }
       ends c e u =
           a .same
-          ∙ ap (leads (cursors k x 0 (take i ls)) (counts (m - m₀) (a .passed))) (first c e ∙ ap (onto (placed k i l (b .at)) (counts (b .moves - m) (b .at - getD x i 0 - (b .moves - m)))) (sym u))
-          ∙ round-same (sym (put-all k x ls i (b .at) inside indexed ∙ rw (← o))) (omega (arith, g .more, a .more)) (omega arith)
+          ∙ ap (leads (cursors k x 0 (take i ls)) (counts (m - m₀) (s - s₀))) (first c e ∙ ap (onto (placed k i l (b .at)) (counts (b .moves - m) (b .passed - s))) (sym u))
+          ∙ round-same (sym (put-all k x ls i (b .at) inside indexed ∙ rw (← o))) (omega (arith, g .more, a .more)) (omega (arith, g .further, a .further))
 
-      pub doing-stops : b .spent ≡ true → {r : RoundEnd} → r ≡ record { moves = b .moves; to = p; accepted = false; stop = true }
-          → Turns last root ls k end p budget m₀ x₀ x′ r
+      pub doing-stops : b .spent ≡ true → {r : RoundEnd} → r ≡ record { moves = b .moves; passed = b .passed; to = p; accepted = false; stop = true }
+          → Turns last root ls k end p budget m₀ s₀ x₀ x′ r
       doing-stops e f = rw f (record {
         valid = moved;
-        passed = passed;
         more = omega (arith, g .more, a .more);
         few = g .few;
+        further = omega (arith, g .further, a .further);
         from = omega arith;
         bound = λ z. absurd (true≢false z);
         same = ends stops (rw (g .stops e, outcome)) refl;
@@ -239,13 +249,13 @@ module _ {last root : List ℕ} {ls : List (List ℕ)} {n k end p budget m₀ : 
         resting = g .rests e
 
         pub doing-again : not (Bool·beq (b .carries) asked) ≡ true
-            → {r : RoundEnd} → r ≡ record { moves = b .moves; to = b .to; accepted = false; stop = false }
-            → Turns last root ls k end p budget m₀ x₀ x′ r
+            → {r : RoundEnd} → r ≡ record { moves = b .moves; passed = b .passed; to = b .to; accepted = false; stop = false }
+            → Turns last root ls k end p budget m₀ s₀ x₀ x′ r
         doing-again z f = rw f (record {
           valid = moved;
-          passed = passed;
           more = omega (arith, g .more, a .more);
           few = g .few;
+          further = omega (arith, g .further, a .further);
           from = resting .from;
           bound = λ z. g .bound e;
           same = ends (again (b .to + 1)) (rests-outcome (side-of k i) (drop (b .at) l) p (b .carries) resting ∙ rw (asked-not (b .carries) (ltb i k) (rw q at z))) refl;
@@ -254,13 +264,15 @@ module _ {last root : List ℕ} {ls : List (List ℕ)} {n k end p budget m₀ : 
         })
 
         pub doing-more : not (Bool·beq (b .carries) asked) ≡ false → {to′ : ℕ} → to′ ≡ min (b .to) to
-            → Doing last root ls n k end p budget m₀ x₀ x′ (b .moves) to′ (i + 1)
+            → Doing last root ls n k end p budget m₀ s₀ x₀ x′ (b .moves) (b .passed) to′ (i + 1)
         doing-more z t =
             let so = asked-so (b .carries) (ltb i k) (rw q at z) in
             let u : budget - m - (b .moves - m) ≡ budget - b .moves = omega (arith, g .more) in
             record {
               count = a .count;
-              passed = passed;
+              devices = a .devices;
+              further = omega (arith, g .further, a .further);
+              small = few-passed;
               valid = moved;
               within = let l = inside in omega arith;
               more = omega (arith, g .more, a .more);
@@ -270,9 +282,9 @@ module _ {last root : List ℕ} {ls : List (List ℕ)} {n k end p budget m₀ : 
               bound = omega (arith, a .bound);
               same =
                   a .same
-                  ∙ ap (leads (cursors k x 0 (take i ls)) (counts (m - m₀) (a .passed))) (first accepts (rests-outcome (side-of k i) (drop (b .at) l) p (b .carries) resting ∙ rw so))
+                  ∙ ap (leads (cursors k x 0 (take i ls)) (counts (m - m₀) (s - s₀))) (first accepts (rests-outcome (side-of k i) (drop (b .at) l) p (b .carries) resting ∙ rw so))
                   ∙ rw (u, put-upto k x ls i (b .at) inside indexed, ← o, ← kept-after k x ls i (b .at) inside indexed, append-assoc)
-                  (round-same refl (omega (arith, g .more, a .more)) (omega arith));
+                  (round-same refl (omega (arith, g .more, a .more)) (omega (arith, g .further, a .further)));
               steady = λ y v w. rw (put-upto k x ls i (b .at) inside indexed, ← o)
                   (accept-more last end y (cursors k x 0 (take i ls)) (placed k i l (b .at)) (a .steady y v (omega arith))
                   (rests-outcome (side-of k i) (drop (b .at) l) y (b .carries) (rests-on (b .carries) resting y v (omega arith)) ∙ rw so));

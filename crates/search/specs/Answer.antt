@@ -32,10 +32,11 @@ criteria P q = record {
 unfoldable pub ended : Plant → Index → Query → ℕ → End
 ended P I q budget = steps (P .last) (P .root) (list-of I) (criteria P q) budget
 
--- the four numbers: "it gives the number and zeros", or "0, the number of devices listed, the place and the moves"
+-- the five numbers: "it gives the number and zeros", or "0, the number of devices listed, the place and the moves", and how many postings those
+-- passed over without landing: "The total is the sum over the moves made."
 abbrev pub answer-of : ℕ → End → Answer
-answer-of zero e = record { refusal = 0; count = length (e .listed); position = e .position; moves = e .counts .moves }
-answer-of (suc n) e = record { refusal = suc n; count = 0; position = 0; moves = 0 }
+answer-of zero e = record { refusal = 0; count = length (e .listed); position = e .position; passed = e .counts .passed; moves = e .counts .moves }
+answer-of (suc n) e = record { refusal = suc n; count = 0; position = 0; passed = 0; moves = 0 }
 
 abbrev pub answer : Plant → Index → Query → ℕ → Answer
 answer P I q room = answer-of (search-refusal P I q room) (ended P I q (q .budget))

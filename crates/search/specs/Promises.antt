@@ -6,22 +6,23 @@ use mathlib.Core.List.{List}
 use lib.ListN.{length, take}
 use Rattle.plant.specs.Plant.{Plant}
 use Rattle.index.specs.Index.{Index, list-of}
+use Rattle.steps.specs.Steps.{Cursor}
 use Rattle.steps.specs.Promises.{ListsExactly, KeepsBudget}
 use Rattle.query.specs.declared.Query.{Query}
 use Rattle.search.specs.Answer.{criteria, answer, answer-list}
 use Rattle.search.specs.declared.Answer.{Answer}
 
--- what matches is listed, and the position and the moves are those of a run that keeps its budget. What its moves passed over and whether it is
--- short are not told.
-pub record Promised (P : Plant) (I : Index) (q : Query) (listed : List ℕ) (position moves : ℕ) : Type 0 where
+-- what matches is listed, and the position, what was passed over and the moves are those of a run that keeps its budget. Whether it is short and
+-- where its cursors stand are not told.
+pub record Promised (P : Plant) (I : Index) (q : Query) (listed : List ℕ) (position passed moves : ℕ) : Type 0 where
   pub lists : ListsExactly (P .last) (list-of I) (criteria P q) listed position
-  pub passed : ℕ
   pub short : Bool
+  pub cursors : List Cursor
   pub budget : KeepsBudget (P .last) (P .root) (list-of I) (criteria P q) (q .budget)
-      (record { listed = listed; position = position; counts = record { moves = moves; passed = passed }; short = short })
+      (record { listed = listed; position = position; counts = record { moves = moves; passed = passed }; short = short; cursors = cursors })
 
 -- r and the answer list, which was `out`
 pub record Searched (P : Plant) (I : Index) (q : Query) (out out′ : List ℕ) (r : Answer) : Type 0 where
   pub answers : r ≡ answer P I q (length out)
   pub lists : out′ ≡ answer-list P I q out
-  pub promised : r .refusal ≡ 0 → Promised P I q (take (r .count) out′) (r .position) (r .moves)
+  pub promised : r .refusal ≡ 0 → Promised P I q (take (r .count) out′) (r .position) (r .passed) (r .moves)

@@ -3,6 +3,7 @@ ghost use mathlib.Core.Path.{_≡_};
 ghost use Prim.Native.Nat.{_+_, _≤_, _<_};
 ghost use lib.ListN.{length};
 ghost use mathlib.Core.Bool.{false};
+ghost use Rattle.laws.specs.Limits.{«largest-number»};
 ghost use Rattle.laws.specs.Tables.{entry};
 ghost use Rattle.laws.specs.inner.Entries.{IsEntry};
 ghost use Rattle.index.specs.Postings.{device, reach};
@@ -29,7 +30,7 @@ fn reach(last: &[u16], q: u32) -> u32
     if q % 2 == 1 { end } else { q / 2 }
 }
 
-// The device that a move from posting q towards position p goes to; 0: the next posting.
+// The device that a move from posting q towards position p goes to, which is above its own; one past its own is the next posting's or before it.
 fn target(last: &[u16], root: &[u16], p: u32, q: u32) -> u32
     requires { ⌜ IsEntry (now last) (device q) × IsEntry (now root) p ⌝ }
     ensures { λ r. ⌜ r ≡ target (now (last .entry)) (now (root .entry)) p q ⌝ }
@@ -40,32 +41,34 @@ fn target(last: &[u16], root: &[u16], p: u32, q: u32) -> u32
         return top;
     }
     let end = entry_of(last, d);
-    if end < p { end + 1 } else { 0 }
+    if end < p { end + 1 } else { d + 1 }
 }
 
-// A cursor brought to a position: its index, the moves made so far, whether its posting carries to the position, and the last position up to
-// which that stays so without a move; or that the next move would exceed the budget.
+// A cursor brought to a position: its index, the moves made so far and how many postings they passed over, whether its posting carries to the
+// position, and the last position up to which that stays so without a move; or that the next move would exceed the budget.
 pub struct CursorAt {
     pub at: usize,
     pub moves: usize,
+    pub passed: usize,
     pub carries: bool,
     pub to: u32,
     pub spent: bool,
 }
 
-fn stays(at: usize, moves: usize, carries: bool, to: u32) -> CursorAt
-    ensures { λ r. ⌜ r ≡ record { at = at; moves = moves; carries = carries; to = to; spent = false } ⌝ }
+fn stays(at: usize, moves: usize, passed: usize, carries: bool, to: u32) -> CursorAt
+    ensures { λ r. ⌜ r ≡ record { at = at; moves = moves; passed = passed; carries = carries; to = to; spent = false } ⌝ }
 {
     CursorAt {
         at,
         moves,
+        passed,
         carries,
         to,
         spent: false,
     }
 }
 
-// Brings the cursor at index `from` of a list to position p, where `made` moves have been made of a budget.
+// Brings the cursor at index `from` of a list to position p, where `made` moves have been made of a budget, and passed over `skipped` postings.
 pub fn bring(
     last: &[u16],
     root: &[u16],
@@ -75,35 +78,39 @@ pub fn bring(
     end: u32,
     budget: u32,
     made: usize,
+    skipped: usize,
 ) -> CursorAt
-    requires { ⌜ Tables (now last) (now root) × Cursor (now last) (now list) from × IsEntry (now last) p × (p < end) × (end ≤ length (now last) + 1) × (made ≤ budget) ⌝ }
-    ensures { λ r. ⌜ Brings (now (last .entry)) (now (root .entry)) (now (list .entry)) end p budget made from r ⌝ }
+    requires { ⌜ Tables (now last) (now root) × Cursor (now last) (now list) from × IsEntry (now last) p × (p < end) × (end ≤ length (now last) + 1) × (made ≤ budget) × (skipped ≤ «largest-number») ⌝ }
+    ensures { λ r. ⌜ Brings (now (last .entry)) (now (root .entry)) (now (list .entry)) end p budget made skipped from r ⌝ }
 {
     let most = budget as usize;
     let mut at = from;
     let mut moves = made;
+    let mut passed = skipped;
     while at < list.len() {
         let q = list[at];
         if p < q / 2 {
-            return stays(at, moves, false, q / 2 - 1);
+            return stays(at, moves, passed, false, q / 2 - 1);
         }
-        let next = at + 1;
         let reached = reach(last, q);
         if p <= reached {
-            return stays(at, moves, true, reached);
+            return stays(at, moves, passed, true, reached);
         }
         if most <= moves {
             return CursorAt {
                 at,
                 moves,
+                passed,
                 carries: false,
                 to: p,
                 spent: true,
             };
         }
         let device = target(last, root, p, q);
+        let step = seek(list, at, device);
         moves += 1;
-        at = seek(list, next, device);
+        passed += step.passed;
+        at = step.at;
     }
-    stays(at, moves, false, end - 1)
+    stays(at, moves, passed, false, end - 1)
 }

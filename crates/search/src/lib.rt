@@ -11,11 +11,13 @@ mod lists;
 mod refusals;
 mod run;
 
-// What a search answers: the refusal and zeros, or 0, the number of devices listed, the position and the moves.
+// What a search answers: the refusal and zeros, or 0, the number of devices listed, the position, the postings that the moves passed over without
+// landing, and the moves.
 pub struct Answer {
     pub refusal: u32,
     pub count: u32,
     pub position: u32,
+    pub passed: u32,
     pub moves: u32,
 }
 
@@ -42,6 +44,7 @@ pub fn search(
             refusal: refused,
             count: 0,
             position: 0,
+            passed: 0,
             moves: 0,
         };
     }
@@ -50,6 +53,7 @@ pub fn search(
         refusal: 0,
         count: listing.count,
         position: listing.position,
+        passed: listing.passed,
         moves: listing.moves,
     }
 }

@@ -4,39 +4,41 @@ ghost use Prim.Native.Nat.{_+_, _≤_, _<_};
 ghost use mathlib.Core.Bool.{cond};
 ghost use mathlib.Core.List.{map};
 ghost use lib.ListN.{length, set};
-ghost use Rattle.laws.specs.Limits.{most-devices};
+ghost use Rattle.laws.specs.Limits.{most-devices, «largest-number»};
 ghost use Rattle.laws.specs.Tables.{entry};
 ghost use Rattle.laws.specs.inner.Entries.{IsEntry};
 ghost use Rattle.steps.specs.Steps.{run};
 ghost use Rattle.query.specs.Query.{in-range};
-ghost use Rattle.search.specs.inner.Cursors.{Tables, Valid, Turns, Lists, Writes, RunGives, begin};
+ghost use Rattle.search.specs.inner.Cursors.{«most-passed», Tables, Valid, Turns, Lists, Writes, RunGives, begin};
 use crate::cursor::bring;
 use integers::least_u32;
 use query::Levels;
 use query::in_range;
 
 // How a round at a position p ends: every cursor accepts each position from p to `to`; or the position is set to the one after `to`; or the
-// next move would exceed the budget. The moves made so far.
+// next move would exceed the budget. The moves made so far, and how many postings they passed over.
 pub struct RoundEnd {
     pub moves: usize,
+    pub passed: usize,
     pub to: u32,
     pub accepted: bool,
     pub stop: bool,
 }
 
-fn round_of(moves: usize, to: u32, accepted: bool, stop: bool) -> RoundEnd
-    ensures { λ r. ⌜ r ≡ record { moves = moves; to = to; accepted = accepted; stop = stop } ⌝ }
+fn round_of(moves: usize, passed: usize, to: u32, accepted: bool, stop: bool) -> RoundEnd
+    ensures { λ r. ⌜ r ≡ record { moves = moves; passed = passed; to = to; accepted = accepted; stop = stop } ⌝ }
 {
     RoundEnd {
         moves,
+        passed,
         to,
         accepted,
         stop,
     }
 }
 
-// One round at position p, where `made` moves have been made of a budget. Cursor k is at index positions[k] of lists[k]; the first `required`
-// of them are of required terms, the others of forbidden ones.
+// One round at position p, where `made` moves have been made of a budget, and passed over `skipped` postings. Cursor k is at index positions[k] of
+// lists[k]; the first `required` of them are of required terms, the others of forbidden ones.
 fn pass(
     last: &[u16],
     root: &[u16],
@@ -47,32 +49,35 @@ fn pass(
     end: u32,
     budget: u32,
     made: usize,
+    skipped: usize,
 ) -> RoundEnd
     requires { ⌜ Tables (now last) (now root) × IsEntry (now last) p × (p < end) × (end ≤ length (now last) + 1)
-        × Valid (now last) (map now (now lists)) (now positions) × (made ≤ budget) ⌝ }
-    ensures { λ r. ⌜ Turns (now (last .entry)) (now (root .entry)) (map now (now (lists .entry))) required end p budget made (now (positions .entry)) (now (positions .exit)) r ⌝ }
+        × Valid (now last) (map now (now lists)) (now positions) × (made ≤ budget) × (skipped ≤ «most-passed») ⌝ }
+    ensures { λ r. ⌜ Turns (now (last .entry)) (now (root .entry)) (map now (now (lists .entry))) required end p budget made skipped (now (positions .entry)) (now (positions .exit)) r ⌝ }
 {
     let mut moves = made;
+    let mut passed = skipped;
     let mut to = end - 1;
     let mut i = 0;
     while i < lists.len() {
         let list = lists[i];
         let from = positions[i];
-        let brought = bring(last, root, list, from, p, end, budget, moves);
+        let brought = bring(last, root, list, from, p, end, budget, moves, passed);
         let at = brought.at;
         positions[i] = at;
         moves = brought.moves;
+        passed = brought.passed;
         if brought.spent {
-            return round_of(moves, p, false, true);
+            return round_of(moves, passed, p, false, true);
         }
         let asked = i < required;
         if brought.carries != asked {
-            return round_of(moves, brought.to, false, false);
+            return round_of(moves, passed, brought.to, false, false);
         }
         to = least_u32(brought.to, to);
         i += 1;
     }
-    round_of(moves, to, true, false)
+    round_of(moves, passed, to, true, false)
 }
 
 // Whether the level code of device d is one that a query wants.
@@ -130,11 +135,24 @@ fn list(
     count
 }
 
-// How many devices a run listed, how far it came, and the moves made.
+// How many devices a run listed, how far it came, how many postings its moves passed over, and the moves made.
 pub struct Listing {
     pub count: u32,
     pub position: u32,
+    pub passed: u32,
     pub moves: u32,
+}
+
+fn listing_of(count: u32, position: u32, passed: usize, moves: usize) -> Listing
+    requires { ⌜ (passed ≤ «largest-number») × (moves ≤ «largest-number») ⌝ }
+    ensures { λ r. ⌜ r ≡ record { count = count; position = position; passed = passed; moves = moves } ⌝ }
+{
+    Listing {
+        count,
+        position,
+        passed: passed as u32,
+        moves: moves as u32,
+    }
 }
 
 // The run from position `start` up to `end`, each cursor on the first posting of its list. The first `required` lists are those of required
@@ -161,6 +179,7 @@ pub fn run(
 {
     let mut positions = [0; 16];
     let mut position = start;
+    let mut passed = 0;
     let mut moves = 0;
     let mut count = 0;
     while position < end {
@@ -174,14 +193,12 @@ pub fn run(
             end,
             budget,
             moves,
+            passed,
         );
+        passed = round.passed;
         moves = round.moves;
         if round.stop {
-            return Listing {
-                count,
-                position,
-                moves: moves as u32,
-            };
+            return listing_of(count, position, passed, moves);
         }
         count = list(
             level,
@@ -194,9 +211,5 @@ pub fn run(
         );
         position = round.to + 1;
     }
-    Listing {
-        count,
-        position: end,
-        moves: moves as u32,
-    }
+    listing_of(count, end, passed, moves)
 }

@@ -33,7 +33,7 @@ module _ (P : Plant) (S : Sound P) (list : ℕ → List ℕ) (rise : (t : ℕ) �
 
   -- with a budget of at least the postings of the lists named a run is not short: it would have spent them, and one would be left
   complete : (budget : ℕ) → named list a ≤ budget → go budget .short ≡ false
-  complete budget h = let R = from-start budget in refuted _ (λ z. omega (flags, R .more z, R .spent z))
+  complete budget h = let R = from-start budget in refuted _ (λ z. omega (flags, R .more z, R .spent z, R .sum))
 
   alike : (n m : ℕ) → n < m → (go n ≡ go m) ⊎ ((go n .short ≡ true) × (n < go m .counts .moves))
   alike n m = run-alike (P .last) (P .root) (a .end) (a .ok) (a .end) n m (a .start) (cursors list a)
@@ -61,7 +61,8 @@ module _ (P : Plant) (S : Sound P) (list : ℕ → List ℕ) (rise : (t : ℕ) �
       let R = from-start budget in
       record {
         within = R .within;
-        few = R .few;
+        few = omega (flags, R .sum);
+        sum = R .sum;
         stopped = R .stopped;
         spent = R .spent;
         next = λ z. cases (alike budget (budget + 1) (omega flags))

@@ -6,7 +6,7 @@ use mathlib.Core.Logic.{_↔_}
 use mathlib.Core.List.{List}
 use lib.Dec.{ltb}
 use Rattle.steps.specs.Matching.{Criteria, matches, matching}
-use Rattle.steps.specs.Steps.{End, steps, named}
+use Rattle.steps.specs.Steps.{End, steps, total, named}
 
 -- for criteria a, the listing is exactly the matching devices from the start up to the position, lowest first
 pub record ListsExactly (last : List ℕ) (list : ℕ → List ℕ) (a : Criteria) (listed : List ℕ) (position : ℕ) : Type 0 where
@@ -16,9 +16,12 @@ pub record ListsExactly (last : List ℕ) (list : ℕ → List ℕ) (a : Criteri
 
 -- a run for criteria a with a budget, which ends so, keeps its budget and stops for want of a move alone
 pub record KeepsBudget (last root : List ℕ) (list : ℕ → List ℕ) (a : Criteria) (budget : ℕ) (e : End) : Type 0 where
-  -- the moves never exceed the budget, and with the postings that they passed over never the postings of the lists named
+  -- the moves never exceed the budget
   pub within : e .counts .moves ≤ budget
+  -- "Moves and passed together never exceed the postings of the lists named": they are how far all cursors stand from their starts, and what is
+  -- left of the lists makes up the rest
   pub few : e .counts .moves + e .counts .passed ≤ named list a
+  pub sum : e .counts .moves + e .counts .passed + total (e .cursors) ≡ named list a
   -- it is short where its position is before the end. It has then made every move of the budget, and with one move more it would make that too.
   pub stopped : e .short ≡ ltb (e .position) (a .end)
   pub spent : e .short ≡ true → e .counts .moves ≡ budget

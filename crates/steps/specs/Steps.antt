@@ -63,23 +63,25 @@ unmoved-all cs o = record { cursors = cs; counts = none; outcome = o }
 abbrev pub onto : Cursor → Counts → Round → Round
 onto c n r = record { cursors = c ∷ r .cursors; counts = plus n (r .counts); outcome = r .outcome }
 
--- how a run ends: what it lists, its position, its counts, and whether it stopped because the next move would exceed the budget
+-- how a run ends: what it lists, its position, its counts, whether it stopped because the next move would exceed the budget, and where its
+-- cursors stand then
 pub record End : Type 0 where
   pub listed : List ℕ
   pub position : ℕ
   pub counts : Counts
   pub short : Bool
+  pub cursors : List Cursor
 
-abbrev pub ends : ℕ → Bool → End
-ends p short = record { listed = []; position = p; counts = none; short = short }
+abbrev pub ends : ℕ → Bool → List Cursor → End
+ends p short cs = record { listed = []; position = p; counts = none; short = short; cursors = cs }
 
 -- "list p when its code passes the window"
 abbrev pub listing : Bool → ℕ → End → End
-listing wanted p e = record { listed = put wanted p (e .listed); position = e .position; counts = e .counts; short = e .short }
+listing wanted p e = record { listed = put wanted p (e .listed); position = e .position; counts = e .counts; short = e .short; cursors = e .cursors }
 
 -- the counts of a round in front of a run
 abbrev pub counted : Counts → End → End
-counted n e = record { listed = e .listed; position = e .position; counts = plus n (e .counts); short = e .short }
+counted n e = record { listed = e .listed; position = e .position; counts = plus n (e .counts); short = e .short; cursors = e .cursors }
 
 module _ (last root : List ℕ) (end : ℕ) where
   -- a round at position p with n moves left: "go through needed marks and then barred ones, in ask order. First bring that cursor to p"
@@ -98,16 +100,16 @@ module _ (last root : List ℕ) (end : ℕ) where
   -- "If the round ends, list p when its code passes the window, and add 1 to p."
   -- "If the next move would exceed the allowance the run stops with p as the place."
   unfoldable pub run : (ℕ → Bool) → ℕ → ℕ → ℕ → List Cursor → End
-  run ok zero n p cs = ends p false
+  run ok zero n p cs = ends p false cs
   run ok (suc k) n p cs =
       let r = round p n cs in
       elim (ltb p end) [
         | true ↦ counted (r .counts) (elim (r .outcome) [
           | accepts ↦ listing (ok p) p (run ok k (n - r .counts .moves) (p + 1) (r .cursors))
           | again next ↦ run ok k (n - r .counts .moves) next (r .cursors)
-          | stops ↦ ends p true
+          | stops ↦ ends p true (r .cursors)
         ])
-        | false ↦ ends end false
+        | false ↦ ends end false cs
       ]
 
 -- "Each named mark, repeats included, has a cursor that begins on the first posting of its list"

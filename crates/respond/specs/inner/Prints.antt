@@ -5,9 +5,9 @@ use lib.ListN.{length}
 use Rattle.text.specs.inner.Puts.{Puts}
 use Rattle.respond.specs.Limits.{device-room}
 
--- the most bytes of an answer that lists so many devices: 15 for the line of each, and 48 beside them, with numbers of ten digits
+-- the most bytes of an answer that lists so many devices: 15 for the line of each, and 68 beside them, with numbers of ten digits
 abbrev pub answer-bytes : ℕ → ℕ
-answer-bytes devices = 48 + 15 * devices
+answer-bytes devices = 68 + 15 * devices
 
 -- the text stands at the front of the buffer where there is room for it, and is no longer than the longest answer
 pub record Prints (out bytes out′ : List ℕ) (count : ℕ) : Type 0 where

@@ -1,5 +1,5 @@
 -- How the code's indexes into lists stand for the definitions' cursors. The contracts of private functions alone cite this.
-use Prim.Native.Nat.{ℕ, suc, _+_, _-_, _≤_, _<_}
+use Prim.Native.Nat.{ℕ, suc, _+_, _-_, _*_, _≤_, _<_}
 use mathlib.Core.Path.{_≡_}
 use mathlib.Core.Bool.{Bool, true, false, cond}
 use mathlib.Core.List.{List, [], _∷_, _++_, map}
@@ -26,24 +26,31 @@ use Rattle.search.specs.declared.run.Listing.{Listing}
 abbrev pub most-cursors : ℕ
 most-cursors = 16
 
+-- no more postings than these are passed over: of each list there are no more than devices
+abbrev pub most-passed : ℕ
+most-passed = most-cursors * most-devices
+
 -- a cursor at an index of a sound list: it stands for what is left of the list
 pub record Cursor (last l : List ℕ) (i : ℕ) : Type 0 where
   pub sound : SoundList last l
   pub within : i ≤ length l
 
--- device tables that cursors go by: a branch ends in the plant
+-- device tables that cursors go by: a branch holds its device, and ends in the plant
 pub record Tables (last root : List ℕ) : Type 0 where
   pub same : length root ≡ length last
   pub few : length last ≤ most-devices
+  pub held : (d : ℕ) → IsEntry last d → d ≤ entry last d
   pub inside : (d : ℕ) → IsEntry last d → entry last d ≤ length last
 
--- the cursor at index f has been brought to position p, after m moves of a budget
-pub record Brings (last root l : List ℕ) (end p budget m f : ℕ) (r : CursorAt) : Type 0 where
+-- the cursor at index f has been brought to position p, after m moves of a budget, which passed over s postings
+pub record Brings (last root l : List ℕ) (end p budget m s f : ℕ) (r : CursorAt) : Type 0 where
   pub within : r .at ≤ length l
   pub more : m ≤ r .moves
   pub few : r .moves ≤ budget
+  pub further : s ≤ r .passed
+  pub bounded : r .passed ≤ s + length l
   pub same : steps.bring last root p (budget - m) (drop f l)
-      ≡ record { cursor = drop (r .at) l; counts = record { moves = r .moves - m; passed = r .at - f - (r .moves - m) } }
+      ≡ record { cursor = drop (r .at) l; counts = record { moves = r .moves - m; passed = r .passed - s } }
   pub stops : r .spent ≡ true → behind last p (drop (r .at) l) ≡ true
   pub bound : r .spent ≡ false → r .to ≤ length last
   pub rests : r .spent ≡ false → Rests last end (drop (r .at) l) p (r .carries) (r .to)
@@ -65,16 +72,16 @@ pub record Valid (last : List ℕ) (ls : List (List ℕ)) (at : List ℕ) : Type
 abbrev pub said : RoundEnd → Outcome
 said r = cond (r .stop) stops (cond (r .accepted) accepts (again (r .to + 1)))
 
--- a round has been made at position p, after m moves of a budget: the cursors go from `at` to `at′`. The code does not count what its moves passed
--- over. Where all accept p, they do at each position up to the round's last.
-pub record Turns (last root : List ℕ) (ls : List (List ℕ)) (k end p budget m : ℕ) (at at′ : List ℕ) (r : RoundEnd) : Type 0 where
+-- a round has been made at position p, after m moves of a budget, which passed over s postings: the cursors go from `at` to `at′`. Where all accept
+-- p, they do at each position up to the round's last.
+pub record Turns (last root : List ℕ) (ls : List (List ℕ)) (k end p budget m s : ℕ) (at at′ : List ℕ) (r : RoundEnd) : Type 0 where
   pub valid : Valid last ls at′
-  pub passed : ℕ
   pub more : m ≤ r .moves
   pub few : r .moves ≤ budget
+  pub further : s ≤ r .passed
   pub from : p ≤ r .to
   pub same : runs.round last root end p (budget - m) (cursors k at 0 ls)
-      ≡ record { cursors = cursors k at′ 0 ls; counts = record { moves = r .moves - m; passed = passed }; outcome = said r }
+      ≡ record { cursors = cursors k at′ 0 ls; counts = record { moves = r .moves - m; passed = r .passed - s }; outcome = said r }
   pub bound : r .stop ≡ false → r .to ≤ length last
   pub inside : r .accepted ≡ true → r .to < end
   pub steady : r .accepted ≡ true → (q : ℕ) → p ≤ q → q ≤ r .to → Accept last end q (cursors k at′ 0 ls)
@@ -107,4 +114,5 @@ pub record RunGives (e : runs.End) (out out′ : List ℕ) (r : Listing) : Type 
   pub written : out′ ≡ e .listed ++ drop (length (e .listed)) out
   pub count : r .count ≡ length (e .listed)
   pub position : r .position ≡ e .position
+  pub passed : r .passed ≡ e .counts .passed
   pub moves : r .moves ≡ e .counts .moves

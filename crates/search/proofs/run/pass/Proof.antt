@@ -5,16 +5,16 @@ use mathlib.Core.Path.{_≡_, refl}
 use denote.Ref.{now}
 use lib.ListN.{length, getD, length-map}
 use borrow.Author.Needs.{needs}
-use Rattle.search.proofs.RoundByIndex.{Doing, element, doing-start, in-array, here, doing-stops, doing-again, doing-more, doing-ends}
+use Rattle.search.proofs.RoundByIndex.{Doing, element, doing-start, in-array, skips, here, doing-stops, doing-again, doing-more, doing-ends}
 use Rattle.search.proofs.run.pass.Statement.{statement}
 use Rattle.search.proofs.run.pass.Tie as tie
 
 abbrev Inv-loop : tie.InvT-loop
-Inv-loop last root lists required positions₀ p end budget made moves₀ to₀ i₀ positions moves to i =
-    Doing last root (map now lists) (length lists) required end p budget made positions₀ positions moves to i
+Inv-loop last root lists required positions₀ p end budget made skipped moves₀ passed₀ to₀ i₀ positions moves passed to i =
+    Doing last root (map now lists) (length lists) required end p budget made skipped positions₀ positions moves passed to i
 
 abbrev μ-loop : tie.MeasureT-loop
-μ-loop last root lists required positions₀ p end budget made moves₀ to₀ i₀ positions moves to i = length lists - i
+μ-loop last root lists required positions₀ p end budget made skipped moves₀ passed₀ to₀ i₀ positions moves passed to i = length lists - i
 
 -- the places: a turn's start, seen where its cursor has been brought, and the start of all
 abbrev turn : tie.After-bring Inv-loop μ-loop → tie.In-loop Inv-loop μ-loop
@@ -35,7 +35,7 @@ bring-requires : tie.Need-bring-requires Inv-loop μ-loop
 bring-requires c κs =
     let t = c .before .before in
     let s = start t in
-    (s .pre .0, here (t .before .loop .inv) (t .loop-test .taken) (listed t), s .pre .1, s .pre .2, s .pre .3, t .before .loop .inv .few)
+    (s .pre .0, here (t .before .loop .inv) (t .loop-test .taken) (listed t), s .pre .1, s .pre .2, s .pre .3, t .before .loop .inv .few, skips (t .before .loop .inv) (t .loop-test .taken) (s .pre .6))
 
 returns : tie.Need-returns Inv-loop μ-loop
 returns c =
@@ -62,7 +62,7 @@ pass-spec =
     Inv-loop
     μ-loop
     (λ c. search needs)
-    (λ c. let s = c .before .before in doing-start (s .pre .4) (s .pre .2) (s .pre .3) (s .pre .5) (length-map (s .args .lists .now) now))
+    (λ c. let s = c .before .before in doing-start (s .pre .0) (s .pre .4) (s .pre .2) (s .pre .3) (s .pre .5) (length-map (s .args .lists .now) now))
     (λ c. search needs)
     (λ c. search needs)
     (λ c. search needs)
