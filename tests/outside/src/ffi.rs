@@ -12,7 +12,7 @@ extern "C" {
         last: *const u16, last_len: usize, root: *const u16, root_len: usize, level: *const u8, level_len: usize,
         terms: *const u16, terms_len: usize, starts: *const u32, starts_len: usize, postings: *const u32, postings_len: usize,
         required: *const u32, required_len: usize, forbidden: *const u32, forbidden_len: usize, ranged: u32, low: u32, high: u32,
-        start: u32, budget: u32, answer: *mut u16, answer_len: usize, numbers: *mut [u32; 3],
+        start: u32, budget: u32, answer: *mut u16, answer_len: usize, numbers: *mut [u32; 4],
     ) -> u32;
 
     fn plant_search_read_plant(
@@ -57,7 +57,7 @@ pub fn check(t: &Tables) -> u32 {
 
 pub fn search(t: &Tables, query: &Query, answer: &mut [u16]) -> Answer {
     let (ranged, low, high) = query.levels.map_or((0, 0, 0), |(low, high)| (1, low, high));
-    let mut numbers = [u32::MAX; 3];
+    let mut numbers = [u32::MAX; 4];
     let refusal = unsafe {
         plant_search_search(
             t.last.as_ptr(),
@@ -86,8 +86,8 @@ pub fn search(t: &Tables, query: &Query, answer: &mut [u16]) -> Answer {
             &mut numbers,
         )
     };
-    let [count, position, moves] = numbers;
-    Answer { refusal, count, position, moves }
+    let [count, position, passed, moves] = numbers;
+    Answer { refusal, count, position, passed, moves }
 }
 
 /// The refusal, and the line, devices, terms and postings; each table is written over whole.

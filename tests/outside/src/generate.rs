@@ -37,16 +37,21 @@ fn index(r: &mut Random, t: &mut Tables, terms: usize, most: usize) {
         t.starts.push(t.postings.len() as u32);
         let gap = r.of(&[1, 2, 3, 10, 100, t.size().max(1)]);
         let sharing = r.of(&[1, 2, 2, 5, 1_000]);
-        let mut device = r.between(1, gap);
-        while device <= t.size() && t.postings.len() < most && !r.one_in(200) {
-            let shared = r.one_in(sharing);
-            t.postings.push(2 * device as u32 + shared as u32);
-            let reach = if shared { t.last[device - 1] as usize } else { device };
-            device = reach + r.between(1, gap);
-        }
+        list(r, t, gap, sharing, most);
         if r.one_in(60) {
             t.postings.truncate(*t.starts.last().unwrap() as usize);
         }
+    }
+}
+
+/// Postings of one list: devices up to `gap` apart, one posting in `sharing` shared.
+fn list(r: &mut Random, t: &mut Tables, gap: usize, sharing: usize, most: usize) {
+    let mut device = r.between(1, gap);
+    while device <= t.size() && t.postings.len() < most && !r.one_in(200) {
+        let shared = r.one_in(sharing);
+        t.postings.push(2 * device as u32 + shared as u32);
+        let reach = if shared { t.last[device - 1] as usize } else { device };
+        device = reach + r.between(1, gap);
     }
 }
 
@@ -239,6 +244,31 @@ fn query(r: &mut Random, t: &Tables) -> Query {
         _ => u32::MAX,
     };
     Query { required, forbidden, levels, start, budget }
+}
+
+/// A sound plant and a query whose moves often pass postings over: lists of few postings are asked before lists of many. Half
+/// have no more budget than they need, most of these less.
+fn selective(r: &mut Random) -> (Tables, Query) {
+    let most = r.of(&[12, 24, 120, 120, 600]);
+    let (n, depth) = (r.between(4, most), r.of(&[1, 2, 3, 32]));
+    let mut t = forest(r, n, depth);
+    let wide = n / 3 + 1;
+    let gaps = r.of(&[[wide, 1, 2, 1], [wide, 3, 1, 2], [wide, wide, 2, 1], [3, 2, 2, 1]]);
+    for (k, gap) in gaps.into_iter().enumerate() {
+        t.terms.push(k as u16 + 1);
+        t.starts.push(t.postings.len() as u32);
+        let sharing = r.of(&[2, 5, 1_000]);
+        list(r, &mut t, gap, sharing, 4_096);
+    }
+    let mut required = vec![1, r.of(&[2, 3, 4])];
+    required.extend((0..r.below(3)).map(|_| r.of(&[1, 2, 3, 4])));
+    let forbidden = required.split_off(r.between(1, required.len()));
+    let start = if r.one_in(4) { r.between(1, n + 1) as u32 } else { 1 };
+    let mut q = Query { required, forbidden, start, ..Query::empty() };
+    if r.one_in(2) {
+        q.budget = r.below(t.moves(&q).len() + 1) as u32;
+    }
+    (t, q)
 }
 
 /// The length of a term's list, for tables that may be damaged.
@@ -452,7 +482,7 @@ fn buffer(r: &mut Random, t: &Tables) -> Vec<u8> {
 }
 
 pub fn case(r: &mut Random) -> Case {
-    match r.below(24) {
+    match r.below(28) {
         0..4 => Case::Check(tables(r)),
         4..10 => {
             let t = tables(r);
@@ -475,10 +505,19 @@ pub fn case(r: &mut Random) -> Case {
             let buffer = buffer(r, &t);
             Case::Write(t, buffer)
         }
-        _ => {
+        21..24 => {
             let t = small_plant(r);
             let plant = if r.one_in(2) { t.text() } else { some_plant_text(r, &t) };
             Case::Respond(plant, some_query_text(r, &t))
+        }
+        24 => {
+            let (t, q) = selective(r);
+            Case::Respond(t.text(), query_text(&q))
+        }
+        _ => {
+            let (t, q) = selective(r);
+            let answer = vec![r.next() as u16; t.size()];
+            Case::Search(t, q, answer)
         }
     }
 }
@@ -487,8 +526,14 @@ pub fn case(r: &mut Random) -> Case {
 pub const P: &[u8] = b"(plant\n(dev 120\n(dev 118\n(dev 255\n)\n)\n(dev 121\n(dev 90\n)\n(dev 119\n)\n)\n)\n\
 (mark 7\n(all 2)\n(own 5)\n)\n(mark 9\n(all 4)\n)\n)\n";
 
+/// Plant Q, of the branches 1..6, 2..5 and 7..9: moves pass postings over, to a root, past a branch and to the end.
+pub const Q: &[u8] = b"(plant\n(dev 100\n(dev 101\n(dev 102\n)\n(dev 103\n)\n(dev 104\n)\n)\n(dev 105\n)\n)\n\
+(dev 106\n(dev 107\n)\n(dev 108\n)\n)\n\
+(mark 1\n(own 9)\n)\n(mark 2\n(own 6)\n(all 7)\n)\n(mark 3\n(own 2)\n(own 3)\n(own 4)\n)\n\
+(mark 4\n(own 2)\n(own 3)\n(own 4)\n(own 6)\n(own 8)\n)\n)\n";
+
 /// Cases without chance: each way to damage P in one place, P's text and an ask cut and changed at every byte, every small
-/// query over P, tables of lengths 0 and 1, and what is written at each limit.
+/// query over P and Q, tables of lengths 0 and 1, what is written at each limit, and the longest lists.
 pub fn systematic() -> Vec<Case> {
     let p = crate::paper::read_plant(P, [9; 6]).unwrap();
     let mut cases = vec![];
@@ -502,12 +547,14 @@ pub fn systematic() -> Vec<Case> {
         }
         cases.push(Case::Search(p.clone(), Query::empty(), vec![5; room]));
     }
-    small_queries(&p, &mut cases);
+    small_queries(&p, &[7, 8, 9], &mut cases);
+    small_queries(&crate::paper::read_plant(Q, [11; 6]).unwrap(), &[1, 2, 3, 4], &mut cases);
     short_tables(&mut cases);
     short_texts(&mut cases);
     deep_plants(&mut cases);
     long_texts(&p, &mut cases);
     large_tables(&mut cases);
+    long_lists(&mut cases);
     cases
 }
 
@@ -558,20 +605,20 @@ fn damaged_tables(p: &Tables, cases: &mut Vec<Case>) {
     }
 }
 
-/// Every query of up to two required and up to two forbidden terms over P, with every start and small budgets.
-fn small_queries(p: &Tables, cases: &mut Vec<Case>) {
+/// Every query of up to two required and up to two forbidden of these terms, with every start and small budgets.
+fn small_queries(t: &Tables, terms: &[u32], cases: &mut Vec<Case>) {
     let mut sides: Vec<Vec<u32>> = vec![vec![]];
-    for a in [7, 8, 9] {
+    for &a in terms {
         sides.push(vec![a]);
-        sides.extend([7, 8, 9].map(|b| vec![a, b]));
+        sides.extend(terms.iter().map(|&b| vec![a, b]));
     }
     for required in &sides {
         for forbidden in &sides {
-            for start in 0..=8 {
+            for start in 0..=t.size() as u32 + 2 {
                 for budget in (0..6).chain([u32::MAX]) {
                     let levels = if budget == 5 { Some((100, 140)) } else { None };
                     let q = Query { required: required.clone(), forbidden: forbidden.clone(), levels, start, budget };
-                    cases.push(Case::Search(p.clone(), q, vec![5; 6]));
+                    cases.push(Case::Search(t.clone(), q, vec![5; t.size()]));
                 }
             }
         }
@@ -702,5 +749,18 @@ fn large_tables(cases: &mut Vec<Case>) {
     postings.postings = (0..1_048_576).map(|i| 2 * (i % 65_535 + 1)).collect();
     for t in [flat, terms, postings, of_tiers(1..=65_535)] {
         cases.extend([0, 65_536, 1_000_000].map(|room| Case::Write(t.clone(), vec![5; room])));
+    }
+}
+
+/// Sixteen lists of every device, or of all but the last, asked at the last one: each move passes all but the ends of its list.
+fn long_lists(cases: &mut Vec<Case>) {
+    let mut t = Tables { terms: (1..=16).collect(), ..of_tiers([1; 65_535]) };
+    for k in 0..16 {
+        t.starts.push(t.postings.len() as u32);
+        t.postings.extend((1..=65_535 - k / 8).map(|d| 2 * d));
+    }
+    for budget in [0, 1, 15, 16] {
+        let q = Query { required: (1..=8).collect(), forbidden: (9..=16).collect(), start: 65_535, budget, ..Query::empty() };
+        cases.push(Case::Search(t.clone(), q, vec![5; 65_535]));
     }
 }

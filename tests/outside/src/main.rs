@@ -13,6 +13,7 @@ mod slow;
 mod subjects;
 
 use case::{Case, Outcome};
+use paper::Answer;
 use random::Random;
 use std::time::Instant;
 
@@ -25,6 +26,8 @@ struct Tally {
     cases: usize,
     differ: usize,
     refusals: [usize; 41],
+    /// accepted searches, complete ones and those that stop: how many, and how many of them pass postings over
+    searches: [[usize; 2]; 2],
 }
 
 impl Tally {
@@ -32,6 +35,7 @@ impl Tally {
         self.cases += 1;
         let expected = case.expected();
         self.refusals[Case::refusal(&expected) as usize] += 1;
+        self.count(&case, &expected);
         if case.difference(&expected, subject).is_none() {
             return;
         }
@@ -39,7 +43,15 @@ impl Tally {
         if self.differ == 1 {
             let smallest = shrink::shrink(case, subject);
             let what = smallest.difference(&smallest.expected(), subject).unwrap();
-            println!("a difference, in the smallest case found:\n{smallest}\n{what}\n");
+            println!("case {} differs; the smallest case found:\n{smallest}\n{what}\n", self.cases);
+        }
+    }
+
+    fn count(&mut self, case: &Case, expected: &Outcome) {
+        if let (Case::Search(t, ..), Outcome::Answer(Answer { refusal: 0, position, passed, .. }, _)) = (case, expected) {
+            let [all, passing] = &mut self.searches[(*position as usize <= t.size()) as usize];
+            *all += 1;
+            *passing += (*passed > 0) as usize;
         }
     }
 
@@ -53,6 +65,9 @@ impl Tally {
             if row || number == 0 || *count > 0 {
                 println!("{} {number:2}: {count}", if number == 0 { "accepted" } else { " refusal" });
             }
+        }
+        for (how, [all, passing]) in ["complete", "stopped"].iter().zip(self.searches) {
+            println!("{how} searches: {all}, {passing} of them pass postings over");
         }
         println!("{} cases, {} differ, {seconds:.1} seconds", self.cases, self.differ);
         if !reached {
@@ -69,7 +84,7 @@ fn main() {
     let subject: &dyn Subject = if wrong { &subjects::Wrong(number(1, 1)) } else { &subjects::Archive };
     let cases = if wrong { number(2, 100_000) } else { number(0, 1_200_000) };
     let mut random = Random(if wrong { 1 } else { number(1, 20_260_101) });
-    let mut tally = Tally { cases: 0, differ: 0, refusals: [0; 41] };
+    let mut tally = Tally { cases: 0, differ: 0, refusals: [0; 41], searches: [[0; 2]; 2] };
     let began = Instant::now();
     for case in generate::systematic() {
         tally.run(case, subject);

@@ -1,5 +1,5 @@
 //! Document 01 in plain Rust, written from its text: tables and their checks, the cursor steps, both texts, the response; and
-//! document 02's writing of a plant.
+//! document 02's writing of a plant and count of the postings that moves pass over.
 //! Nothing here is shared with the proved crates.
 
 #[derive(Clone, Debug, Default, PartialEq)]
@@ -27,12 +27,13 @@ impl Query {
     }
 }
 
-/// What a search gives: the refusal and zeros, or 0, the count, the position and the moves.
+/// What a search gives: the refusal and zeros, or 0, the count, the position, the postings passed and the moves.
 #[derive(Clone, Copy, Debug, Default, PartialEq)]
 pub struct Answer {
     pub refusal: u32,
     pub count: u32,
     pub position: u32,
+    pub passed: u32,
     pub moves: u32,
 }
 
@@ -167,9 +168,14 @@ impl Tables {
         if refusal != 0 {
             return Answer { refusal, ..Answer::default() };
         }
-        let mut run = Run::new(self, query);
-        while run.position <= self.size() && run.round(answer) {}
-        Answer { refusal: 0, count: run.count as u32, position: run.position as u32, moves: run.moves }
+        let run = Run::whole(self, query, answer);
+        let passed = run.made.iter().map(Move::passed).sum::<usize>() as u32;
+        Answer { refusal: 0, count: run.count as u32, position: run.position as u32, passed, moves: run.made.len() as u32 }
+    }
+
+    /// The moves of an accepted query, in the order in which they are made.
+    pub fn moves(&self, query: &Query) -> Vec<Move> {
+        Run::whole(self, query, &mut vec![0; self.size()]).made
     }
 
     /// How many branches end with each device.
@@ -236,13 +242,27 @@ struct Cursor<'a> {
     at: usize,
 }
 
+/// A move of a cursor, from one index of its list to a later one or to the length.
+pub struct Move {
+    pub from: usize,
+    pub to: usize,
+}
+
+impl Move {
+    /// The postings that it goes over without landing.
+    pub fn passed(&self) -> usize {
+        self.to - self.from - 1
+    }
+}
+
 struct Run<'a> {
     tables: &'a Tables,
     query: &'a Query,
     required: Vec<Cursor<'a>>,
     forbidden: Vec<Cursor<'a>>,
     position: usize,
-    moves: u32,
+    /// the moves made by all cursors together
+    made: Vec<Move>,
     count: usize,
 }
 
@@ -256,16 +276,25 @@ impl<'a> Run<'a> {
             required: cursors(&query.required),
             forbidden: cursors(&query.forbidden),
             position: query.start as usize,
-            moves: 0,
+            made: vec![],
             count: 0,
         }
+    }
+
+    /// A run that has ended. Moves and passed together are how far its cursors stand from the starts of their lists.
+    fn whole(tables: &'a Tables, query: &'a Query, answer: &mut [u16]) -> Run<'a> {
+        let mut run = Run::new(tables, query);
+        while run.position <= tables.size() && run.round(answer) {}
+        let gone: usize = run.required.iter().chain(&run.forbidden).map(|cursor| cursor.at).sum();
+        assert_eq!(gone, run.made.iter().map(|made| 1 + made.passed()).sum());
+        run
     }
 
     /// One round at the position; false: the next move would exceed the budget.
     fn round(&mut self, answer: &mut [u16]) -> bool {
         let p = self.position;
         for cursor in &mut self.required {
-            if !cursor.bring(self.tables, p, &mut self.moves, self.query.budget) {
+            if !cursor.bring(self.tables, p, &mut self.made, self.query.budget) {
                 return false;
             }
             let c = cursor.device(self.tables);
@@ -275,7 +304,7 @@ impl<'a> Run<'a> {
             }
         }
         for cursor in &mut self.forbidden {
-            if !cursor.bring(self.tables, p, &mut self.moves, self.query.budget) {
+            if !cursor.bring(self.tables, p, &mut self.made, self.query.budget) {
                 return false;
             }
             let c = cursor.device(self.tables);
@@ -300,16 +329,16 @@ impl Cursor<'_> {
         self.list.get(self.at).map_or(tables.size() + 1, |&q| device_of(q))
     }
 
-    fn bring(&mut self, tables: &Tables, p: usize, moves: &mut u32, budget: u32) -> bool {
+    fn bring(&mut self, tables: &Tables, p: usize, made: &mut Vec<Move>, budget: u32) -> bool {
         loop {
             let c = self.device(tables);
             if c > p || tables.reach(self.list[self.at]) >= p {
                 return true;
             }
-            if *moves == budget {
+            if made.len() == budget as usize {
                 return false;
             }
-            *moves += 1;
+            let from = self.at;
             let root = tables.root[p - 1] as usize;
             self.at += 1;
             let target = if c < root {
@@ -322,6 +351,7 @@ impl Cursor<'_> {
             while self.device(tables) < target && self.at < self.list.len() {
                 self.at += 1;
             }
+            made.push(Move { from, to: self.at });
         }
     }
 }
@@ -557,6 +587,6 @@ pub fn respond(plant: &[u8], query: &[u8]) -> Vec<u8> {
     for device in &answer[..end.count as usize] {
         out += &format!("(device {device})\n");
     }
-    out += &format!("(place {})\n(moves {})\n)\n", end.position, end.moves);
+    out += &format!("(place {})\n(passed {})\n(moves {})\n)\n", end.position, end.passed, end.moves);
     out.into_bytes()
 }

@@ -1,41 +1,98 @@
-//! Document 01's worked rows over plant P, which the plain implementation must give, and what it writes.
+//! Document 01's worked rows over plant P, and more over plant Q, which the plain implementation must give, and what it writes.
 use crate::case::{Case, Outcome};
-use crate::generate::P;
-use crate::paper::{read_plant, read_query, respond, Tables};
+use crate::generate::{self, P, Q};
+use crate::paper::{read_plant, read_query, respond, Answer, Query, Tables};
+use crate::random::Random;
+use crate::slow::broken;
 use crate::subjects::Wrong;
 use crate::Subject;
 
-/// The ask lines of a row, its devices, place and moves.
-type Row = (&'static str, &'static [u16], u32, u32);
+/// The ask lines of a row, its devices, place, postings passed and moves.
+type Row = (&'static str, &'static [u16], u32, u32, u32);
 
 const ROWS: [Row; 12] = [
-    ("(need 7)\n", &[2, 3, 5], 7, 2),
-    ("(need 9)\n", &[4, 5, 6], 7, 0),
-    ("(need 7)\n(not 9)\n", &[2, 3], 7, 1),
-    ("(need 9)\n(not 7)\n", &[4, 6], 7, 2),
-    ("(need 7)\n(level 100 140)\n", &[2], 7, 2),
-    ("(need 7)\n(not 9)\n(moves 0)\n", &[2, 3], 4, 0),
-    ("(need 8)\n", &[], 7, 0),
-    ("(not 8)\n", &[1, 2, 3, 4, 5, 6], 7, 0),
-    ("(need 7)\n(not 7)\n", &[], 7, 3),
-    ("(level 0 254)\n", &[1, 2, 4, 5, 6], 7, 0),
-    ("(need 9)\n(from 6)\n", &[6], 7, 0),
-    ("(need 7)\n(from 7)\n", &[], 7, 0),
+    ("(need 7)\n", &[2, 3, 5], 7, 0, 2),
+    ("(need 9)\n", &[4, 5, 6], 7, 0, 0),
+    ("(need 7)\n(not 9)\n", &[2, 3], 7, 0, 1),
+    ("(need 9)\n(not 7)\n", &[4, 6], 7, 0, 2),
+    ("(need 7)\n(level 100 140)\n", &[2], 7, 0, 2),
+    ("(need 7)\n(not 9)\n(moves 0)\n", &[2, 3], 4, 0, 0),
+    ("(need 8)\n", &[], 7, 0, 0),
+    ("(not 8)\n", &[1, 2, 3, 4, 5, 6], 7, 0, 0),
+    ("(need 7)\n(not 7)\n", &[], 7, 0, 3),
+    ("(level 0 254)\n", &[1, 2, 4, 5, 6], 7, 0, 0),
+    ("(need 9)\n(from 6)\n", &[6], 7, 0, 0),
+    ("(need 7)\n(from 7)\n", &[], 7, 0, 0),
 ];
 
-fn response(ask: &str) -> String {
-    String::from_utf8(respond(P, format!("(ask\n{ask})\n").as_bytes())).unwrap()
+/// Rows over plant Q, whose moves pass postings over.
+const PASSING: [Row; 11] = [
+    // to the root of device 9, over three postings; then to the end
+    ("(need 1)\n(need 4)\n", &[], 10, 3, 2),
+    ("(need 1)\n(need 4)\n(moves 1)\n", &[], 9, 3, 1),
+    ("(need 1)\n(need 4)\n(moves 0)\n", &[], 9, 0, 0),
+    ("(not 4)\n(from 9)\n", &[9], 10, 3, 2),
+    // past the branch of device 2, over two; the other moves land on the next posting or at the end
+    ("(need 2)\n(need 4)\n", &[6, 8], 10, 2, 4),
+    ("(need 2)\n(need 4)\n(moves 3)\n", &[6, 8], 9, 2, 3),
+    // to the end at once, over two
+    ("(need 1)\n(need 3)\n", &[], 10, 2, 1),
+    ("(not 3)\n(from 7)\n(moves 1)\n", &[7, 8, 9], 10, 2, 1),
+    // inside the branch of device 2, from posting to posting
+    ("(need 3)\n(from 4)\n", &[4], 10, 0, 3),
+    // each cursor of a repeated term passes over its own
+    ("(need 1)\n(need 2)\n(not 3)\n(not 3)\n", &[9], 10, 4, 3),
+    ("(need 1)\n(need 2)\n(not 3)\n(not 3)\n(moves 2)\n", &[], 9, 2, 2),
+];
+
+fn response(plant: &[u8], ask: &str) -> String {
+    String::from_utf8(respond(plant, format!("(ask\n{ask})\n").as_bytes())).unwrap()
+}
+
+fn row_is(plant: &[u8], (ask, devices, place, passed, moves): Row) {
+    let listing: String = devices.iter().map(|d| format!("(device {d})\n")).collect();
+    let answer = format!("(answer\n{listing}(place {place})\n(passed {passed})\n(moves {moves})\n)\n");
+    assert_eq!(response(plant, ask), answer, "{ask}");
 }
 
 #[test]
 fn rows_over_p() {
-    for (ask, devices, place, moves) in ROWS {
-        let listing: String = devices.iter().map(|d| format!("(device {d})\n")).collect();
-        assert_eq!(response(ask), format!("(answer\n{listing}(place {place})\n(moves {moves})\n)\n"), "{ask}");
+    ROWS.into_iter().for_each(|row| row_is(P, row));
+    row_is(b"(plant\n)\n", ("", &[], 1, 0, 0));
+    assert_eq!(response(P, "(from 8)\n"), "(refused query 13)\n");
+    assert_eq!(response(P, "(level 0 255)\n"), "(refused query 12)\n");
+}
+
+#[test]
+fn rows_over_q() {
+    PASSING.into_iter().for_each(|row| row_is(Q, row));
+}
+
+/// The slow evaluator finds one more or one less passed by a complete run, and bounds what one that stops has passed.
+#[test]
+fn passed_is_bounded() {
+    let q = read_plant(Q, [11; 6]).unwrap();
+    let broken = |ask: &str, passed: u32| {
+        let query = read_query(format!("(ask\n{ask})\n").as_bytes()).unwrap();
+        let mut answer = [0; 9];
+        let unlimited = q.search(&Query { budget: u32::MAX, ..query.clone() }, &mut answer);
+        let got = q.search(&query, &mut answer);
+        broken(&q, &query, Answer { passed, ..got }, &answer[..got.count as usize], unlimited).is_some()
+    };
+    assert_eq!([2, 3, 4].map(|passed| broken("(need 1)\n(need 4)\n", passed)), [true, false, true]);
+    assert_eq!([0, 1, 2].map(|passed| broken("(need 3)\n(from 4)\n", passed)), [false, true, true]);
+    assert_eq!([0, 3, 4].map(|passed| broken("(need 1)\n(need 4)\n(moves 1)\n", passed)), [false, false, true]);
+    assert_eq!([0, 1].map(|passed| broken("(need 1)\n(need 4)\n(moves 0)\n", passed)), [false, true]);
+}
+
+/// Every known mistake is found by the random cases alone.
+#[test]
+fn mistakes_are_found() {
+    for k in 1..=18 {
+        let mut r = Random(1);
+        let mut cases = (0..100_000).map(|_| generate::case(&mut r));
+        assert!(cases.any(|case| case.difference(&case.expected(), &Wrong(k)).is_some()), "mistake {k}");
     }
-    assert_eq!(String::from_utf8(respond(b"(plant\n)\n", b"(ask\n)\n")).unwrap(), "(answer\n(place 1)\n(moves 0)\n)\n");
-    assert_eq!(response("(from 8)\n"), "(refused query 13)\n");
-    assert_eq!(response("(level 0 255)\n"), "(refused query 12)\n");
 }
 
 #[test]

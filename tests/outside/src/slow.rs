@@ -1,15 +1,21 @@
 //! The slow unshared evaluator: what matches, by writing every list out, and what is promised of a run, with no cursor in it.
 use crate::paper::{device_of, Answer, Query, Tables};
 
+/// The last device that a posting carries its term to.
+fn end_of(tables: &Tables, posting: u32) -> usize {
+    let device = device_of(posting);
+    if posting % 2 == 1 {
+        tables.last[device - 1] as usize
+    } else {
+        device
+    }
+}
+
 /// Every device that carries the term, marked.
 fn carriers(tables: &Tables, term: u32) -> Vec<bool> {
     let mut carries = vec![false; tables.size() + 1];
     for &posting in tables.list_of(term) {
-        let device = device_of(posting);
-        let end = if posting % 2 == 1 { tables.last[device - 1] as usize } else { device };
-        for d in device..=end {
-            carries[d] = true;
-        }
+        carries[device_of(posting)..=end_of(tables, posting)].fill(true);
     }
     carries
 }
@@ -97,6 +103,42 @@ pub fn too_deep(t: &Tables) -> bool {
     devices().any(|e| devices().filter(|&d| holds(d, e)).count() > 32)
 }
 
+/// The position after a round at p. Each list that is asked gets p beside it; the first that turns p away ends the round.
+fn round(tables: &Tables, query: &Query, lists: &mut [(&[u32], usize)], p: usize) -> usize {
+    for (k, (list, asked)) in lists.iter_mut().enumerate() {
+        *asked = p;
+        let carrying = list.iter().find(|&&q| device_of(q) <= p && p <= end_of(tables, q));
+        match (k < query.required.len(), carrying) {
+            (true, None) => return list.iter().map(|&q| device_of(q)).find(|&d| p < d).unwrap_or(tables.size() + 1),
+            (false, Some(&q)) => return end_of(tables, q) + 1,
+            _ => (),
+        }
+    }
+    p + 1
+}
+
+/// How many postings the rounds at positions below `end` leave behind: in a list that was asked last at p, those that carry to no
+/// device from p on.
+fn left_behind(tables: &Tables, query: &Query, end: usize) -> usize {
+    let mut lists: Vec<_> = query.required.iter().chain(&query.forbidden).map(|&t| (tables.list_of(t), 0)).collect();
+    let mut p = query.start as usize;
+    while p < end {
+        p = round(tables, query, &mut lists, p);
+    }
+    lists.iter().map(|(list, asked)| list.iter().filter(|&&q| end_of(tables, q) < *asked).count()).sum()
+}
+
+/// Whether a run that ended at the position may have gone so far: to what is left behind, or where it stopped, to less than what
+/// the round there would leave behind.
+fn may_go(tables: &Tables, query: &Query, position: usize, gone: usize) -> bool {
+    let behind = left_behind(tables, query, position);
+    if position > tables.size() {
+        gone == behind
+    } else {
+        behind <= gone && gone < left_behind(tables, query, position + 1)
+    }
+}
+
 /// What an accepted answer breaks, if anything: `unlimited` is the answer to the same query with the largest budget.
 pub fn broken(tables: &Tables, query: &Query, got: Answer, listing: &[u16], unlimited: Answer) -> Option<&'static str> {
     let n = tables.size();
@@ -104,18 +146,25 @@ pub fn broken(tables: &Tables, query: &Query, got: Answer, listing: &[u16], unli
     let matching = matches(tables, query);
     let expected: Vec<u16> = (query.start as usize..position).filter(|&d| matching[d]).map(|d| d as u16).collect();
     let named: usize = query.required.iter().chain(&query.forbidden).map(|&t| tables.list_of(t).len()).sum();
+    let gone = got.moves as usize + got.passed as usize;
     let complete = position == n + 1;
     if position < query.start as usize || position > n + 1 {
         Some("the position is outside start..N + 1")
     } else if listing != expected {
         Some("the listing is not the matching devices up to the position")
-    } else if got.moves > query.budget || got.moves as usize > named {
-        Some("more moves than the budget or than the postings named")
+    } else if got.moves > query.budget {
+        Some("more moves than the budget")
+    } else if got.moves == 0 && got.passed > 0 {
+        Some("postings passed without a move")
+    } else if gone > named {
+        Some("more moves and passed together than the postings named")
+    } else if !may_go(tables, query, position, gone) {
+        Some("moves and passed together are not how far the cursors go")
     } else if complete == (query.budget < unlimited.moves) {
         Some("complete with too small a budget, or stopped without need")
     } else if !complete && got.moves != query.budget {
         Some("stopped before the budget was spent")
-    } else if complete && (got.moves, got.count) != (unlimited.moves, unlimited.count) {
+    } else if complete && got != unlimited {
         Some("a complete run differs from the unlimited one")
     } else if !complete && query.budget as usize >= named {
         Some("stopped with a budget for every posting named")

@@ -1,6 +1,6 @@
 //! What is held to the paper: the archive, or the paper with a known mistake in it.
 use crate::case::{lent, Case, Outcome};
-use crate::paper::{Answer, Tables};
+use crate::paper::{Answer, Move, Tables};
 use crate::{ffi, Subject};
 
 pub struct Archive;
@@ -56,7 +56,7 @@ impl Subject for Wrong {
         match (self.0, &case, case.expected()) {
             // a move counts each posting passed
             (5, _, Outcome::Answer(answer, listing)) => {
-                Outcome::Answer(Answer { moves: answer.moves + answer.moves / 4, ..answer }, listing)
+                Outcome::Answer(Answer { moves: answer.moves + answer.passed, ..answer }, listing)
             }
             // a device closes after the next one opens
             (6, _, Outcome::Written(0, length, mut bytes)) => {
@@ -88,9 +88,47 @@ impl Subject for Wrong {
             (12, Case::Write(t, _), Outcome::Written(36, length, bytes)) if t.text().len() > bytes.len() => {
                 Outcome::Written(40, length, bytes)
             }
+            // the landing counts as passed
+            (13, _, outcome) => passing(&case, outcome, |made| made.iter().map(|m| m.to - m.from).sum()),
+            // a cursor that stays where it is for a device that is listed counts as passing one
+            (14, Case::Search(_, q, _), Outcome::Answer(answer, listing)) => {
+                let stays = answer.count * (q.required.len() + q.forbidden.len()) as u32;
+                Outcome::Answer(Answer { passed: answer.passed + stays, ..answer }, listing)
+            }
+            // where a run stops, what it passed is lost
+            (15, Case::Search(t, ..), Outcome::Answer(answer, listing)) if answer.position as usize <= t.size() => {
+                Outcome::Answer(Answer { passed: 0, ..answer }, listing)
+            }
+            // what the last move passes is left out
+            (16, _, outcome) => passing(&case, outcome, |made| made.iter().rev().skip(1).map(Move::passed).sum()),
+            // counting begins at the posting after the one that is left
+            (17, _, outcome) => passing(&case, outcome, |made| made.iter().map(|m| m.passed().saturating_sub(1)).sum()),
+            // passed is printed after the moves
+            (18, _, Outcome::Bytes(length, mut bytes)) => {
+                passed_late(&mut bytes[..length]);
+                Outcome::Bytes(length, bytes)
+            }
             (_, _, outcome) => outcome,
         }
     }
+}
+
+/// The outcome of a search, where an accepted one counts passed in this way.
+fn passing(case: &Case, outcome: Outcome, passed: impl Fn(&[Move]) -> usize) -> Outcome {
+    match (case, outcome) {
+        (Case::Search(t, q, _), Outcome::Answer(answer, listing)) if answer.refusal == 0 => {
+            Outcome::Answer(Answer { passed: passed(&t.moves(q)) as u32, ..answer }, listing)
+        }
+        (_, outcome) => outcome,
+    }
+}
+
+/// Puts the line of the postings passed behind that of the moves.
+fn passed_late(text: &mut [u8]) {
+    let Some(from) = text.windows(8).position(|w| w == b"(passed ") else { return };
+    let line = text[from..].iter().position(|&b| b == b'\n').unwrap() + 1;
+    let end = text.len() - 2;
+    text[from..end].rotate_left(line);
 }
 
 /// Puts the first closing line that a device follows behind that device's line.
