@@ -29,7 +29,7 @@ mod unshared;
 mod ways;
 mod writing;
 
-use paper::{Query, Tables};
+use paper::{Answer, Query, Tables};
 use plants::{Kind, Size, KINDS};
 use random::Random;
 use std::hint::black_box;
@@ -145,6 +145,7 @@ fn growth() -> Vec<Growth> {
 pub struct Skip {
     pub long: usize,
     pub moves: u32,
+    pub passed: u32,
     pub proved: f64,
     pub plain: f64,
 }
@@ -166,15 +167,15 @@ fn skips() -> Vec<Skip> {
     for long in [1_000, 4_000, 16_000, 64_000] {
         let (t, q) = skipping(long);
         let mut answer = vec![0; t.size()];
-        let moves = plain::search(&t, &q, &mut answer).moves;
-        assert_eq!(ffi::search(&t, &q, &mut answer).moves, moves);
+        let found @ Answer { moves, passed, .. } = plain::search(&t, &q, &mut answer);
+        assert_eq!(ffi::search(&t, &q, &mut answer), found);
         let (mut proved, mut plain) = (Rounds::default(), Rounds::default());
         for round in 0..600 {
             proved.push(proved_steps(&t, &q, &mut answer, round));
             black_box(ffi::check(black_box(&t)));
             plain.push(seconds(|| plain::steps(&t, black_box(&q), &mut answer)));
         }
-        rows.push(Skip { long, moves, proved: proved.median(), plain: plain.median() - clock() });
+        rows.push(Skip { long, moves, passed, proved: proved.median(), plain: plain.median() - clock() });
     }
     rows
 }

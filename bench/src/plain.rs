@@ -196,6 +196,12 @@ struct Cursor<'a> {
     at: usize,
 }
 
+/// What all cursors together have spent: moves, and the postings that these passed over without landing.
+struct Spent {
+    moves: u32,
+    passed: usize,
+}
+
 /// Of a cursor brought to a position: whether its posting carries to it, and the last position up to which that stays so with
 /// no move.
 struct Stretch {
@@ -206,7 +212,7 @@ struct Stretch {
 impl Cursor<'_> {
     /// Brings the cursor to position p; none: the next move would exceed the budget.
     #[inline(always)]
-    fn bring(&mut self, t: &Tables, p: usize, moves: &mut u32, budget: u32) -> Option<Stretch> {
+    fn bring(&mut self, t: &Tables, p: usize, spent: &mut Spent, budget: u32) -> Option<Stretch> {
         while let Some(&posting) = self.list.get(self.at) {
             let d = device(posting);
             if p < d {
@@ -217,10 +223,10 @@ impl Cursor<'_> {
             if p <= reach {
                 return Some(Stretch { carries: true, to: reach });
             }
-            if *moves == budget {
+            if spent.moves == budget {
                 return None;
             }
-            *moves += 1;
+            spent.moves += 1;
             let root = t.root[p - 1] as usize;
             let target = if d < root {
                 root
@@ -229,7 +235,9 @@ impl Cursor<'_> {
             } else {
                 0
             };
-            self.at = seek(self.list, self.at + 1, target);
+            let from = self.at;
+            self.at = seek(self.list, from + 1, target);
+            spent.passed += self.at - from - 1;
         }
         Some(Stretch { carries: false, to: t.last.len() })
     }
@@ -284,11 +292,11 @@ pub fn steps(t: &Tables, q: &Query, answer: &mut [u16]) -> Answer {
     let required = &mut required[..q.required.len()];
     let forbidden = &mut forbidden[..q.forbidden.len()];
     let n = t.last.len();
-    let (mut p, mut moves, mut count) = (q.start as usize, 0, 0);
+    let (mut p, mut spent, mut count) = (q.start as usize, Spent { moves: 0, passed: 0 }, 0);
     'rounds: while p <= n {
         let mut until = n;
         for cursor in required.iter_mut() {
-            let Some(stretch) = cursor.bring(t, p, &mut moves, q.budget) else { break 'rounds };
+            let Some(stretch) = cursor.bring(t, p, &mut spent, q.budget) else { break 'rounds };
             if !stretch.carries {
                 p = stretch.to + 1;
                 continue 'rounds;
@@ -296,7 +304,7 @@ pub fn steps(t: &Tables, q: &Query, answer: &mut [u16]) -> Answer {
             until = until.min(stretch.to);
         }
         for cursor in forbidden.iter_mut() {
-            let Some(stretch) = cursor.bring(t, p, &mut moves, q.budget) else { break 'rounds };
+            let Some(stretch) = cursor.bring(t, p, &mut spent, q.budget) else { break 'rounds };
             if stretch.carries {
                 p = stretch.to + 1;
                 continue 'rounds;
@@ -306,7 +314,7 @@ pub fn steps(t: &Tables, q: &Query, answer: &mut [u16]) -> Answer {
         count = fill(&t.level, q.levels, p, until, answer, count);
         p = until + 1;
     }
-    Answer { refusal: 0, count: count as u32, position: p as u32, moves }
+    Answer { refusal: 0, count: count as u32, position: p as u32, passed: spent.passed as u32, moves: spent.moves }
 }
 
 /// Lists the positions from p to `until` whose level code is wanted, after the first `count` entries.

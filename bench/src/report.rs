@@ -242,10 +242,10 @@ fn moves_skip(skips: &[Skip]) -> String {
     let mut out = String::from("\n## What a move skips\n\n");
     out += "Of 65,535 devices a term is on 64 and another on more and more, and both are required: ";
     out += "what each move skips grows, and how many moves there are does not.\n";
-    out += &head(&["postings of the long list", "moves", "steps, plain µs", "steps, proved µs", "proved / plain"]);
-    for Skip { long, moves, proved, plain } in skips {
+    out += &head(&["postings of the long list", "moves", "passed", "steps, plain µs", "steps, proved µs", "proved / plain"]);
+    for Skip { long, moves, passed, proved, plain } in skips {
         let times = format!("{} | {} | {:.2}", micro(*plain), micro(*proved), proved / plain);
-        writeln!(out, "| {} | {moves} | {times} |", commas(*long)).unwrap();
+        writeln!(out, "| {} | {moves} | {} | {times} |", commas(*long), commas(*passed as usize)).unwrap();
     }
     out
 }

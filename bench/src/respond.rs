@@ -84,5 +84,6 @@ fn answer(t: &Tables, q: &Query, mut out: Out, search: Search) -> usize {
     for &device in &listing[..found.count as usize] {
         out = out.line(b"(device ", device as u32);
     }
-    out.line(b"(place ", found.position).line(b"(moves ", found.moves).word(b")\n").at
+    out = out.line(b"(place ", found.position).line(b"(passed ", found.passed);
+    out.line(b"(moves ", found.moves).word(b")\n").at
 }

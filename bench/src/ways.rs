@@ -93,7 +93,7 @@ impl Ways {
         Ways { tables, unshared, bitmaps, in_call, database, answer, clock: clock(), check }
     }
 
-    /// Every way gives the same listing, and the proved search the same four numbers as the plain one.
+    /// Every way gives the same listing, and the proved search the same five numbers as the plain one.
     pub fn agree(&mut self, q: &Query) -> Moves {
         let n = self.tables.size();
         let mut expected = vec![0; n];
@@ -213,7 +213,7 @@ pub fn proved_steps(t: &Tables, q: &Query, answer: &mut [u16], round: usize) -> 
 }
 
 /// The proved search and the plain one agree where a budget stops them, from several starts, and where they go on from there:
-/// in all four numbers and in every entry of the answer.
+/// in all five numbers and in every entry of the answer.
 fn agree_in_parts(t: &Tables, q: &Query, moves: u32) {
     let n = t.size() as u32;
     for budget in [0, 1, moves / 2, u32::MAX] {
