@@ -120,7 +120,6 @@ promised P I q room h =
     record {
       lists = lists-exactly P (a .forest) (list-of I) (λ t. sound-rising (a .list t)) (criteria P q) (k .from-first) (k .to-end) (omega arith) (q .budget);
       short = ended P I q (q .budget) .short;
-      cursors = ended P I q (q .budget) .cursors;
       budget = keeps-budget P (a .forest) (list-of I) (λ t. sound-rising (a .list t)) (criteria P q) (k .from-first) (k .to-end) (omega arith) (q .budget);
     }
 

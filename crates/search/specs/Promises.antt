@@ -6,20 +6,18 @@ use mathlib.Core.List.{List}
 use lib.ListN.{length, take}
 use Rattle.plant.specs.Plant.{Plant}
 use Rattle.index.specs.Index.{Index, list-of}
-use Rattle.steps.specs.Steps.{Cursor}
 use Rattle.steps.specs.Promises.{ListsExactly, KeepsBudget}
 use Rattle.query.specs.declared.Query.{Query}
-use Rattle.search.specs.Answer.{criteria, answer, answer-list}
+use Rattle.search.specs.Answer.{criteria, ended, answer, answer-list}
 use Rattle.search.specs.declared.Answer.{Answer}
 
--- what matches is listed, and the position, what was passed over and the moves are those of a run that keeps its budget. Whether it is short and
--- where its cursors stand are not told.
+-- what matches is listed, and the position, what was passed over and the moves are those of a run that keeps its budget. Whether it is short is
+-- not told, nor where its cursors stand: as the steps leave them.
 pub record Promised (P : Plant) (I : Index) (q : Query) (listed : List ℕ) (position passed moves : ℕ) : Type 0 where
   pub lists : ListsExactly (P .last) (list-of I) (criteria P q) listed position
   pub short : Bool
-  pub cursors : List Cursor
   pub budget : KeepsBudget (P .last) (P .root) (list-of I) (criteria P q) (q .budget)
-      (record { listed = listed; position = position; counts = record { moves = moves; passed = passed }; short = short; cursors = cursors })
+      (record { listed = listed; position = position; counts = record { moves = moves; passed = passed }; short = short; cursors = ended P I q (q .budget) .cursors })
 
 -- r and the answer list, which was `out`
 pub record Searched (P : Plant) (I : Index) (q : Query) (out out′ : List ℕ) (r : Answer) : Type 0 where

@@ -68,7 +68,8 @@ fn stays(at: usize, moves: usize, passed: usize, carries: bool, to: u32) -> Curs
     }
 }
 
-// Brings the cursor at index `from` of a list to position p, where `made` moves have been made of a budget, and passed over `skipped` postings.
+// Brings the cursor at index `from` of a list to position p, where `made` moves have been made of a budget, and passed over `skipped` postings, so
+// few that the sum fits.
 pub fn bring(
     last: &[u16],
     root: &[u16],

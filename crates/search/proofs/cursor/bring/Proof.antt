@@ -25,6 +25,11 @@ returns-3 c =
     going-spent (t .before .loop .inv) (s .pre .3) (s .pre .4) (s .pre .1) (t .loop-test .taken) (s .pre .0) (c .before .before .before .if1 .left) (c .before .before .reach .ensures .0)
     (c .before .if2 .left) (c .if3 .taken)
 
+returns-4 : tie.Need-returns-4 Inv-loop μ-loop
+returns-4 c =
+    let s = c .before .before .before .before .before .before in
+    going-ends (c .before .before .loop .inv) (s .pre .3) (s .pre .4) (c .before .loop-test .left) (c .stays3 .ensures)
+
 -- a turn's start, seen where its move has been made, and what that move is
 abbrev turn : tie.After-seek Inv-loop μ-loop → tie.In-loop Inv-loop μ-loop
 turn c = c .before .before .before .before .before .before .before
@@ -66,4 +71,4 @@ bring-spec =
     (λ c. moved (c .before) .going)
     (λ c. search needs)
     (λ c κs. search needs)
-    (λ c. let s = c .before .before .before .before .before .before in going-ends (c .before .before .loop .inv) (s .pre .3) (s .pre .4) (c .before .loop-test .left) (c .stays3 .ensures)))
+    returns-4)
