@@ -91,7 +91,7 @@ pub fn in_range(levels: Levels, code: u32) -> bool {
     match levels {
         Levels::Any => true,
         Levels::Range(low, high) => {
-            if code == 255 {
+            if code == 0 || code == 255 {
                 return false;
             }
             low <= code && code <= high

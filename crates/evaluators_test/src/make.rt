@@ -42,9 +42,10 @@ fn root_at(last: &[u16; 16], root: &[u16; 16], d: u32) -> u32 {
 fn level_code(k: u32) -> u32 {
     match k {
         0 => 0,
-        1 => 90,
-        2 => 118,
-        3 => 254,
+        1 => 1,
+        2 => 90,
+        3 => 118,
+        4 => 254,
         _ => 255,
     }
 }
@@ -64,7 +65,7 @@ pub fn devices(
         put16(last, d, plus(plus(d, 1), length));
         let r = root_at(last, root, d);
         put16(root, d, r);
-        let code = level_code(draw(seed, 5));
+        let code = level_code(draw(seed, 6));
         put8(level, d, code);
         d += 1;
     }
@@ -125,11 +126,12 @@ fn posting_at(seed: &mut u64, d: u32, n: u32, covered: u32) -> u32 {
 }
 
 fn levels(seed: &mut u64) -> Levels {
-    let k = draw(seed, 4);
+    let k = draw(seed, 5);
     match k {
-        0 => Levels::Range(0, 254),
-        1 => Levels::Range(90, 118),
-        2 => Levels::Range(118, 254),
+        0 => Levels::Range(1, 254),
+        1 => Levels::Range(1, 90),
+        2 => Levels::Range(90, 118),
+        3 => Levels::Range(118, 254),
         _ => Levels::Any,
     }
 }

@@ -98,11 +98,11 @@ fn bad_use(query: Query, k: usize) -> bool {
     false
 }
 
-// 12: a window with low above high, or high above 254
+// 12: a window with low above high, or high above 254; by document 02 also a low of 0
 fn bad_range(levels: Levels) -> bool {
     match levels {
         Levels::Any => false,
-        Levels::Range(low, high) => high < low || 254 < high,
+        Levels::Range(low, high) => high < low || 254 < high || low == 0,
     }
 }
 

@@ -1,5 +1,5 @@
-// Document 01's rows a to m and its sentences after them, and document 02's postings passed over, as texts. Prints each query with its
-// answer and with what the slow evaluator lists, and how many differ.
+// Document 01's rows a to m and its sentences after them, row j as document 02 has it, and document 02's postings passed over and level code
+// 0, as texts. Prints each query with its answer and with what the slow evaluator lists, and how many differ.
 use crate::beside;
 use crate::numbers::plus;
 use io::write_all;
@@ -50,7 +50,7 @@ fn rows_g_to_m(p: &[u8]) -> u32 {
     let g = row(b"g\n", p, b"(ask\n(need 8)\n)\n");
     let h = row(b"h\n", p, b"(ask\n(not 8)\n)\n");
     let i = row(b"i\n", p, b"(ask\n(need 7)\n(not 7)\n)\n");
-    let j = row(b"j\n", p, b"(ask\n(level 0 254)\n)\n");
+    let j = row(b"j\n", p, b"(ask\n(level 1 254)\n)\n");
     let k = row(b"k\n", p, b"(ask\n(need 9)\n(from 6)\n)\n");
     let l = row(b"l\n", p, b"(ask\n(need 7)\n(from 7)\n)\n");
     let m = row(b"m\n", b"(plant\n)\n", b"(ask\n)\n");
@@ -60,7 +60,8 @@ fn rows_g_to_m(p: &[u8]) -> u32 {
 // The sentences after the rows, two of them over plants of their own.
 fn sentences(p: &[u8]) -> u32 {
     refusal(b"from 8 is 13\n", p, b"(ask\n(from 8)\n)\n");
-    refusal(b"high 255 is 12\n", p, b"(ask\n(level 0 255)\n)\n");
+    refusal(b"high 255 is 12\n", p, b"(ask\n(level 1 255)\n)\n");
+    refusal(b"low 0 is 12\n", p, b"(ask\n(level 0 254)\n)\n");
     refusal(
         b"mark 7 with all 2 and own 3 is redundant\n",
         b"(plant\n(dev 120\n(dev 118\n(dev 255\n)\n)\n)\n(mark 7\n(all 2)\n(own 3)\n)\n)\n",
@@ -89,6 +90,22 @@ fn jumps(p: &[u8]) -> u32 {
     plus(all, two)
 }
 
+// Level ranges over p, the devices of plant P with device 3 at 0 and device 5 at 1: 0 is in no range, and 1 is the lowest level.
+fn ranges(p: &[u8]) -> u32 {
+    let all = row(
+        b"device 3 is at 0: in no window\n",
+        p,
+        b"(ask\n(level 1 254)\n)\n",
+    );
+    let lowest = row(
+        b"device 5 is at 1: in a window from 1\n",
+        p,
+        b"(ask\n(level 1 1)\n)\n",
+    );
+    let none = row(b"no window\n", p, b"(ask\n)\n");
+    plus(plus(all, lowest), none)
+}
+
 // All of them, where p is document 01's plant P.
 fn rows_and_sentences(p: &[u8]) -> u32 {
     let first = rows_a_to_f(p);
@@ -97,7 +114,10 @@ fn rows_and_sentences(p: &[u8]) -> u32 {
     let fourth = jumps(
         b"(plant\n(dev 1\n(dev 1\n)\n(dev 1\n)\n)\n(dev 1\n(dev 1\n(dev 1\n)\n)\n(dev 1\n)\n)\n(mark 8\n(own 1)\n(own 2)\n(own 5)\n(own 6)\n(own 7)\n)\n(mark 9\n(own 4)\n(own 7)\n)\n)\n",
     );
-    plus(plus(first, second), plus(third, fourth))
+    let fifth = ranges(
+        b"(plant\n(dev 120\n(dev 118\n(dev 0\n)\n)\n(dev 121\n(dev 1\n)\n(dev 119\n)\n)\n)\n)\n",
+    );
+    plus(plus(plus(first, second), plus(third, fourth)), fifth)
 }
 
 pub fn print_rows() {

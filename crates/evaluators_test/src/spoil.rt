@@ -116,7 +116,7 @@ pub fn query(seed: &mut u64, kind: u32, n: u32, q: Query) -> Query {
     required.count = odd_count(kind, 0, way, required.count);
     forbidden.count = odd_count(kind, 1, way, forbidden.count);
     let range = q.levels;
-    let levels = odd_levels(kind, way, range);
+    let levels = odd_levels(kind, draw(seed, 3), range);
     Query {
         required: required,
         forbidden: forbidden,
@@ -142,10 +142,11 @@ fn odd_term(way: u32) -> u32 {
 
 fn odd_levels(kind: u32, way: u32, levels: Levels) -> Levels {
     if kind == 12 {
-        if way == 0 {
-            return Levels::Range(91, 90);
-        }
-        return Levels::Range(90, 255);
+        return match way {
+            0 => Levels::Range(91, 90),
+            1 => Levels::Range(90, 255),
+            _ => Levels::Range(0, 90),
+        };
     }
     levels
 }

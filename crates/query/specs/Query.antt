@@ -1,10 +1,11 @@
 -- The query (document 01's ask): its terms, its updates, and the level rule.
 use Prim.Native.Nat.{ℕ, _+_, _-_}
-use mathlib.Core.Bool.{Bool, true, cond, _&&_, not}
+use mathlib.Core.Bool.{Bool, true, false, cond, _&&_}
 use mathlib.Core.List.{List, _++_}
-use lib.Dec.{leb, ltb, eqb}
+use lib.Dec.{leb, ltb}
 use lib.ListN.{length, take, set, replicate}
 use Rattle.laws.specs.Limits.{largest-number}
+use Rattle.plant.specs.Levels.{true-level}
 use Rattle.query.specs.declared.Levels.{Levels}
 use Rattle.query.specs.declared.terms.Terms.{Terms}
 use Rattle.query.specs.declared.Query.{Query}
@@ -12,13 +13,6 @@ use Rattle.query.specs.declared.Query.{Query}
 -- "Up to 8 needed and 8 barred marks": of each kind
 abbrev pub most-named : ℕ
 most-named = 8
-
--- "Codes 0 to 254 are true levels; 255 means no true level"
-abbrev pub highest-level : ℕ
-highest-level = 254
-
-abbrev pub no-level : ℕ
-no-level = 255
 
 -- the terms of one kind, required (needed marks) or forbidden (barred marks), as they are written
 abbrev pub used : Terms → List ℕ
@@ -58,4 +52,9 @@ with-budget q n = record { required = q .required; forbidden = q .forbidden; lev
 -- whether a query wants a level code: a range (document 01's window) holds true levels alone
 abbrev pub in-range : Levels → ℕ → Bool
 in-range Levels.Any code = true
-in-range (Levels.Range low high) code = leb low code && leb code high && not (eqb code no-level)
+in-range (Levels.Range low high) code = leb low code && leb code high && true-level code
+
+-- whether a query wants the codes that are no true level too
+abbrev pub any-code : Levels → Bool
+any-code Levels.Any = true
+any-code (Levels.Range low high) = false

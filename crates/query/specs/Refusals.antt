@@ -1,6 +1,6 @@
 -- The refusals of a query: document 01's rows for the ask, as small tables joined, so that a row slots in between two others.
 use Prim.Native.Nat.{ℕ, _+_}
-use mathlib.Core.Bool.{Bool, false, _||_}
+use mathlib.Core.Bool.{Bool, false, _||_, not}
 use mathlib.Core.List.{List}
 use lib.Dec.{ltb, eqb}
 use lib.ListN.{length}
@@ -8,7 +8,8 @@ use Rattle.laws.specs.Limits.{highest-term}
 use Rattle.laws.specs.Rows.{pick, otherwise}
 use Rattle.laws.specs.Search.{any}
 use Rattle.laws.specs.Tables.{entry}
-use Rattle.query.specs.Query.{most-named, highest-level, used}
+use Rattle.plant.specs.Levels.{true-level}
+use Rattle.query.specs.Query.{most-named, used}
 use Rattle.query.specs.declared.Levels.{Levels}
 use Rattle.query.specs.declared.Query.{Query}
 
@@ -26,10 +27,10 @@ no-terms ts = any (length ts) (no-term ts)
 abbrev pub term-rows : List ℕ → List ℕ → ℕ
 term-rows required forbidden = pick (no-terms required || no-terms forbidden) 11 0
 
--- 12: "a window with low above high, or high above 254"
+-- 12: "a window with low above high, or high above 254"; document 02: "12 now also covers a low of 0." An end of a range is a true level.
 abbrev pub no-range : Levels → Bool
 no-range Levels.Any = false
-no-range (Levels.Range low high) = ltb high low || ltb highest-level high
+no-range (Levels.Range low high) = ltb high low || not (true-level low) || not (true-level high)
 
 abbrev pub level-rows : Levels → ℕ
 level-rows l = pick (no-range l) 12 0

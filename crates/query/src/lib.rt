@@ -14,7 +14,7 @@ pub use refusals::refusal;
 pub use terms::Terms;
 pub use terms::terms_of;
 
-// Which level codes a query wants (document 01: its window). A code of 255 is no true level and lies in no range.
+// Which level codes a query wants (document 01: its window). A code of 0 or 255 is no true level and lies in no range.
 pub enum Levels {
     Any,
     Range(u32, u32),
@@ -31,6 +31,9 @@ pub struct Query {
 
 impl Query {
     pub const MOST_TERMS: usize = 8;
+
+    // True levels are LOWEST_LEVEL to HIGHEST_LEVEL.
+    pub const LOWEST_LEVEL: u32 = 1;
 
     pub const HIGHEST_LEVEL: u32 = 254;
 

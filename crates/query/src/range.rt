@@ -1,18 +1,27 @@
-// Which level codes a query wants.
+// Which level codes are true levels, and which a query wants.
 ghost use mathlib.Core.Path.{_≡_};
-ghost use mathlib.Core.Bool.{_&&_, not};
-ghost use lib.Dec.{leb, eqb};
+ghost use mathlib.Core.Bool.{_&&_};
+ghost use lib.Dec.{leb};
+ghost use Rattle.plant.specs.Levels.{true-level};
 ghost use Rattle.query.specs.Query.{in-range};
 use crate::Levels;
+use crate::Query;
+
+// Whether a level code is a true level.
+pub fn true_level(code: u32) -> bool
+    ensures { λ r. ⌜ r ≡ true-level code ⌝ }
+{
+    Query::LOWEST_LEVEL <= code && code <= Query::HIGHEST_LEVEL
+}
 
 // Whether a level code lies in the range low..high of true levels.
 fn between(low: u32, high: u32, code: u32) -> bool
-    ensures { λ r. ⌜ r ≡ (leb low code && leb code high && not (eqb code 255)) ⌝ }
+    ensures { λ r. ⌜ r ≡ (leb low code && leb code high && true-level code) ⌝ }
 {
     if code < low || high < code {
         return false;
     }
-    code != 255
+    true_level(code)
 }
 
 // Whether a level code is one that a query wants.

@@ -43,7 +43,7 @@ fn queries() {
         b"(ask\n(need 1)\n(need 1)\n(need 1)\n(need 1)\n(need 1)\n(need 1)\n(need 1)\n(need 1)\n(need 1)\n",
     );
     query(b"(ask\n(need 0)\n)\n");
-    query(b"(ask\n(level 1 0)\n)\n");
+    query(b"(ask\n(level 0 0)\n)\n");
     query(b"(ask\n(from 0)\n)\n");
 }
 

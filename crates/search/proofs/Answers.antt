@@ -12,20 +12,24 @@ use Rattle.laws.specs.Search.{any}
 use Rattle.laws.specs.Tables.{entry}
 use Rattle.laws.proofs.Rows.{otherwise-first, otherwise-next, otherwise-none}
 use Rattle.laws.proofs.Maps.{map-take}
+use Rattle.laws.proofs.Tests.{and-no}
 use Rattle.plant.specs.Plant.{Plant, size}
+use Rattle.plant.specs.Levels.{true-level}
 use Rattle.plant.proofs.Forest as plants
 use Rattle.index.specs.Index as indexes
 use Rattle.index.specs.Index.{Index, count, misplaced-term, list-of}
 use Rattle.index.proofs.Accepted as index-laws
 use Rattle.index.proofs.Accepted.{accepted-list-of, sound-rising}
 use Rattle.index.specs.inner.Lists.{SoundList}
+use Rattle.steps.specs.Matching.{matches}
 use Rattle.steps.specs.Steps as runs
 use Rattle.steps.specs.Steps.{End, placed, run}
 use Rattle.steps.proofs.Promises.{lists-exactly, keeps-budget}
-use Rattle.query.specs.Query.{used, in-range}
+use Rattle.query.specs.Query.{used, in-range, any-code}
 use Rattle.query.specs.Refusals.{query-refusal}
 use Rattle.query.specs.declared.Query.{Query}
 use Rattle.query.proofs.Accepted.{AcceptedSearch, accepted-search}
+use Rattle.query.proofs.TrueLevels.{untrue}
 use Rattle.search.specs.inner.Cursors.{most-cursors, Lists, Tables, begin, RunGives}
 use Rattle.search.specs.Answer.{search-refusal, criteria, ended, answer-of, written}
 use Rattle.search.specs.Promises.{Promised, Searched}
@@ -109,6 +113,11 @@ written-refused : (n : ℕ) (e : End) (out : List ℕ) → (n ≡ 0 → ⊥) →
 written-refused zero e out h = absurd (h refl)
 written-refused (suc n) e out h = refl
 
+-- a device without a true level, at 0 or 255, matches no query that has a level range
+true-levels : (P : Plant) (I : Index) (q : Query) → any-code (q .levels) ≡ false → (d : ℕ) → true-level (entry (P .level) d) ≡ false
+    → matches (P .last) (list-of I) (criteria P q) d ≡ false
+true-levels P I q h d e = let z = untrue (q .levels) (entry (P .level) d) e ∙ h in simp and-no (λ w. z)
+
 -- the theorem: all that is promised of an accepted query holds of how its steps end
 pub promised : (P : Plant) (I : Index) (q : Query) (room : ℕ) → search-refusal P I q room ≡ 0 →
     Promised P I q (ended P I q (q .budget) .listed) (ended P I q (q .budget) .position) (ended P I q (q .budget) .counts .passed)
@@ -119,6 +128,7 @@ promised P I q room h =
     let k = a .query .query in
     record {
       lists = lists-exactly P (a .forest) (list-of I) (λ t. sound-rising (a .list t)) (criteria P q) (k .from-first) (k .to-end) (omega arith) (q .budget);
+      true-levels = true-levels P I q;
       short = ended P I q (q .budget) .short;
       budget = keeps-budget P (a .forest) (list-of I) (λ t. sound-rising (a .list t)) (criteria P q) (k .from-first) (k .to-end) (omega arith) (q .budget);
     }

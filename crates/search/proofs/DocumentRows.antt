@@ -1,4 +1,4 @@
--- Document 01's queries over plant P: its starred rows a to j, by computation.
+-- Document 01's queries over plant P: its starred rows a to j, the last as document 02 has it, by computation.
 use Prim.Native.Nat.{ℕ, _-_}
 use mathlib.Core.Path.{_≡_, refl}
 use mathlib.Core.List.{List, [], _∷_, _++_}
@@ -19,9 +19,12 @@ use Rattle.query.specs.declared.Levels.{Levels}
 use Rattle.query.specs.declared.Query.{Query}
 use Rattle.search.specs.Answer.{search-refusal, criteria, ended, answer, answer-list}
 
--- "P has N = 6, last 6, 3, 3, 6, 5, 6, all roots 1, postings 5, 10, 9."
+-- "P has N = 6, last 6, 3, 3, 6, 5, 6, all roots 1, postings 5, 10, 9." Device 3 has code 255 there.
+abbrev pub P-with : ℕ → Plant
+P-with code = plant (6 ∷ 3 ∷ 3 ∷ 6 ∷ 5 ∷ 6 ∷ []) (1 ∷ 1 ∷ 1 ∷ 1 ∷ 1 ∷ 1 ∷ []) (120 ∷ 118 ∷ code ∷ 121 ∷ 90 ∷ 119 ∷ [])
+
 abbrev pub P : Plant
-P = plant (6 ∷ 3 ∷ 3 ∷ 6 ∷ 5 ∷ 6 ∷ []) (1 ∷ 1 ∷ 1 ∷ 1 ∷ 1 ∷ 1 ∷ []) (120 ∷ 118 ∷ 255 ∷ 121 ∷ 90 ∷ 119 ∷ [])
+P = P-with 255
 
 abbrev pub I : Index
 I = index (7 ∷ 9 ∷ []) (0 ∷ 2 ∷ []) (5 ∷ 10 ∷ 9 ∷ [])
@@ -35,23 +38,26 @@ abbrev pub most : ℕ
 most = empty .budget
 
 -- a row: the answer to the query, the answer list of six zeros afterwards, and what matches before the position
-pub record Row (q : Query) (listed : List ℕ) (position passed moves : ℕ) : Type 0 where
+pub record Row (P : Plant) (q : Query) (listed : List ℕ) (position passed moves : ℕ) : Type 0 where
   pub answers : answer P I q 6 ≡ record { refusal = 0; count = length listed; position = position; passed = passed; moves = moves }
   pub lists : answer-list P I q (replicate 6 0) ≡ listed ++ replicate (6 - length listed) 0
   pub exact : matching (matches (P .last) (list-of I) (criteria P q)) (position - 1) 1 ≡ listed
 
--- rows a to j, in that order
+-- rows a to j, in that order. Then document 02: "0 is treated as 255 is", row j with device 3 at 0; "12 now also covers a low of 0", row j as
+-- document 01 had it.
 pub rows :
-    Row (query (7 ∷ []) [] Levels.Any most) (2 ∷ 3 ∷ 5 ∷ []) 7 0 2
-    × Row (query (9 ∷ []) [] Levels.Any most) (4 ∷ 5 ∷ 6 ∷ []) 7 0 0
-    × Row (query (7 ∷ []) (9 ∷ []) Levels.Any most) (2 ∷ 3 ∷ []) 7 0 1
-    × Row (query (9 ∷ []) (7 ∷ []) Levels.Any most) (4 ∷ 6 ∷ []) 7 0 2
-    × Row (query (7 ∷ []) [] (Levels.Range 100 140) most) (2 ∷ []) 7 0 2
-    × Row (query (7 ∷ []) (9 ∷ []) Levels.Any 0) (2 ∷ 3 ∷ []) 4 0 0
-    × Row (query (8 ∷ []) [] Levels.Any most) [] 7 0 0
-    × Row (query [] (8 ∷ []) Levels.Any most) (1 ∷ 2 ∷ 3 ∷ 4 ∷ 5 ∷ 6 ∷ []) 7 0 0
-    × Row (query (7 ∷ []) (7 ∷ []) Levels.Any most) [] 7 0 3
-    × Row (query [] [] (Levels.Range 0 254) most) (1 ∷ 2 ∷ 4 ∷ 5 ∷ 6 ∷ []) 7 0 0
+    Row P (query (7 ∷ []) [] Levels.Any most) (2 ∷ 3 ∷ 5 ∷ []) 7 0 2
+    × Row P (query (9 ∷ []) [] Levels.Any most) (4 ∷ 5 ∷ 6 ∷ []) 7 0 0
+    × Row P (query (7 ∷ []) (9 ∷ []) Levels.Any most) (2 ∷ 3 ∷ []) 7 0 1
+    × Row P (query (9 ∷ []) (7 ∷ []) Levels.Any most) (4 ∷ 6 ∷ []) 7 0 2
+    × Row P (query (7 ∷ []) [] (Levels.Range 100 140) most) (2 ∷ []) 7 0 2
+    × Row P (query (7 ∷ []) (9 ∷ []) Levels.Any 0) (2 ∷ 3 ∷ []) 4 0 0
+    × Row P (query (8 ∷ []) [] Levels.Any most) [] 7 0 0
+    × Row P (query [] (8 ∷ []) Levels.Any most) (1 ∷ 2 ∷ 3 ∷ 4 ∷ 5 ∷ 6 ∷ []) 7 0 0
+    × Row P (query (7 ∷ []) (7 ∷ []) Levels.Any most) [] 7 0 3
+    × Row P (query [] [] (Levels.Range 1 254) most) (1 ∷ 2 ∷ 4 ∷ 5 ∷ 6 ∷ []) 7 0 0
+    × Row (P-with 0) (query [] [] (Levels.Range 1 254) most) (1 ∷ 2 ∷ 4 ∷ 5 ∷ 6 ∷ []) 7 0 0
+    × (answer P I (query [] [] (Levels.Range 0 254) most) 6 ≡ record { refusal = 12; count = 0; position = 0; passed = 0; moves = 0 })
 unfolding plants.plant-refusal indexes.tables-refusal indexes.index-rows common-refusal query-refusal search-refusal terms-of ended run round bring until any lowest matching every member unshared count-up
 rows = (
   record { answers = refl; lists = refl; exact = refl },
@@ -64,4 +70,6 @@ rows = (
   record { answers = refl; lists = refl; exact = refl },
   record { answers = refl; lists = refl; exact = refl },
   record { answers = refl; lists = refl; exact = refl },
+  record { answers = refl; lists = refl; exact = refl },
+  refl,
 )
