@@ -19,7 +19,8 @@ extern "C" {
 
 /* Checks device tables and index: the lowest of refusals 1 to 9 that applies, or 0.
  *
- * last: the last device of each device's branch. root: the root of its tree. level: its level code, 255 for none.
+ * last: the last device of each device's branch. root: the root of its tree. level: its level code; 1 to 254 is a level, 0 and
+ * 255 are none.
  * terms: the term numbers, rising. starts: where the list of each begins in postings. A posting is 2 times its device, plus 1
  * if it carries the term to the whole branch. */
 uint32_t plant_search_check(
@@ -33,7 +34,8 @@ uint32_t plant_search_check(
 /* Searches: the lowest of refusals 1 to 14 that applies, or 0. The tables are checked in each call.
  *
  * required, forbidden: the terms that a device must carry, and those that it must not; more than 8 of either is refusal 10.
- * ranged: 0 for any level code, and low and high are not looked at; else only codes low to high.
+ * ranged: 0 for any level code, and low and high are not looked at; else only codes low to high. Levels are 1 to 254, and codes
+ * 0 and 255 lie in no range: a low of 0, a high above 254 or a low above high is refusal 12.
  * start: the device to begin at. budget: the most moves that the cursors may make.
  * answer: room for N devices or more. The matching devices are written to its front; other entries keep what they hold, and
  * after a refusal all do.

@@ -22,7 +22,7 @@ fn forest(r: &mut Random, n: usize, depth: usize) -> Tables {
         open.push(index);
         t.last.push(n as u16);
         t.root.push(open[0] as u16 + 1);
-        t.level.push(if r.one_in(6) { r.of(&[0, 253, 254, 255, 255]) } else { r.below(level) as u8 });
+        t.level.push(if r.one_in(6) { r.of(&[0, 0, 1, 2, 253, 254, 255, 255]) } else { r.below(level) as u8 });
     }
     t
 }
@@ -215,6 +215,9 @@ fn terms(r: &mut Random, t: &Tables, most: usize) -> Vec<u32> {
     (0..count).map(|_| one(r)).collect()
 }
 
+/// Ends of level ranges, at the edges of the true levels.
+const ENDS: [u32; 9] = [0, 1, 2, 128, 253, 254, 255, 256, u32::MAX];
+
 fn query(r: &mut Random, t: &Tables) -> Query {
     let n = t.size() as u32;
     let mut required = terms(r, t, 4);
@@ -224,9 +227,9 @@ fn query(r: &mut Random, t: &Tables) -> Query {
     }
     let levels = match r.below(12) {
         0 => Some((r.below(260) as u32, r.below(260) as u32)),
-        1 => Some(r.of(&[(0, 254), (0, 255), (254, 254), (255, 255), (1, 0), (0, u32::MAX), (u32::MAX, 0)])),
+        1 => Some((r.of(&ENDS), r.of(&ENDS))),
         2 | 3 => {
-            let low = r.below(255);
+            let low = r.between(1, 254);
             Some((low as u32, r.between(low, 254) as u32))
         }
         _ => None,
@@ -549,6 +552,7 @@ pub fn systematic() -> Vec<Case> {
     }
     small_queries(&p, &[7, 8, 9], &mut cases);
     small_queries(&crate::paper::read_plant(Q, [11; 6]).unwrap(), &[1, 2, 3, 4], &mut cases);
+    level_ranges(&mut cases);
     short_tables(&mut cases);
     short_texts(&mut cases);
     deep_plants(&mut cases);
@@ -556,6 +560,16 @@ pub fn systematic() -> Vec<Case> {
     large_tables(&mut cases);
     long_lists(&mut cases);
     cases
+}
+
+/// A device for each level code, and every range of these ends.
+fn level_ranges(cases: &mut Vec<Case>) {
+    let trees: Vec<u16> = (1..=256).collect();
+    let t = Tables { last: trees.clone(), root: trees, level: (0..=255).collect(), ..Tables::default() };
+    for range in ENDS.iter().flat_map(|&low| ENDS.map(|high| (low, high))) {
+        let query = Query { levels: Some(range), ..Query::empty() };
+        cases.push(Case::Search(t.clone(), query, vec![5; 256]));
+    }
 }
 
 /// P and an ask, cut at every byte, and with each byte changed.

@@ -152,7 +152,7 @@ impl Tables {
             10
         } else if named.any(|&t| !(1..=65_535).contains(&t)) {
             11
-        } else if query.levels.is_some_and(|(low, high)| low > high || high > 254) {
+        } else if query.levels.is_some_and(|(low, high)| low > high || high > 254 || low == 0) {
             12
         } else if query.start == 0 || query.start as u64 > n + 1 {
             13
@@ -315,7 +315,7 @@ impl<'a> Run<'a> {
             }
         }
         let code = self.tables.level[p - 1] as u32;
-        if self.query.levels.is_none_or(|(low, high)| low <= code && code <= high && code != 255) {
+        if self.query.levels.is_none_or(|(low, high)| low <= code && code <= high && code != 0 && code != 255) {
             answer[self.count] = p as u16;
             self.count += 1;
         }

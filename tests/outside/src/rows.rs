@@ -20,7 +20,7 @@ const ROWS: [Row; 12] = [
     ("(need 8)\n", &[], 7, 0, 0),
     ("(not 8)\n", &[1, 2, 3, 4, 5, 6], 7, 0, 0),
     ("(need 7)\n(not 7)\n", &[], 7, 0, 3),
-    ("(level 0 254)\n", &[1, 2, 4, 5, 6], 7, 0, 0),
+    ("(level 1 254)\n", &[1, 2, 4, 5, 6], 7, 0, 0),
     ("(need 9)\n(from 6)\n", &[6], 7, 0, 0),
     ("(need 7)\n(from 7)\n", &[], 7, 0, 0),
 ];
@@ -60,7 +60,18 @@ fn rows_over_p() {
     ROWS.into_iter().for_each(|row| row_is(P, row));
     row_is(b"(plant\n)\n", ("", &[], 1, 0, 0));
     assert_eq!(response(P, "(from 8)\n"), "(refused query 13)\n");
-    assert_eq!(response(P, "(level 0 255)\n"), "(refused query 12)\n");
+    assert_eq!(response(P, "(level 1 255)\n"), "(refused query 12)\n");
+    assert_eq!(response(P, "(level 0 254)\n"), "(refused query 12)\n");
+}
+
+/// Device 1 at 0 and device 2 at 1: 0 is in no range, as 255 is, and 1 is the lowest level.
+#[test]
+fn level_0_is_none() {
+    let plant = b"(plant\n(dev 0\n(dev 1\n)\n(dev 255\n)\n(dev 254\n)\n)\n)\n";
+    row_is(plant, ("(level 1 254)\n", &[2, 4], 5, 0, 0));
+    row_is(plant, ("(level 1 1)\n", &[2], 5, 0, 0));
+    row_is(plant, ("", &[1, 2, 3, 4], 5, 0, 0));
+    assert_eq!(response(plant, "(level 0 0)\n"), "(refused query 12)\n");
 }
 
 #[test]
@@ -88,7 +99,7 @@ fn passed_is_bounded() {
 /// Every known mistake is found by the random cases alone.
 #[test]
 fn mistakes_are_found() {
-    for k in 1..=18 {
+    for k in 1..=22 {
         let mut r = Random(1);
         let mut cases = (0..100_000).map(|_| generate::case(&mut r));
         assert!(cases.any(|case| case.difference(&case.expected(), &Wrong(k)).is_some()), "mistake {k}");

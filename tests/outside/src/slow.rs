@@ -28,7 +28,7 @@ pub fn matches(tables: &Tables, query: &Query) -> Vec<bool> {
         d > 0
             && required.iter().all(|c| c[d])
             && !forbidden.iter().any(|c| c[d])
-            && query.levels.is_none_or(|(low, high)| (low..=high).contains(&code))
+            && query.levels.is_none_or(|(low, high)| (1..=254).contains(&code) && (low..=high).contains(&code))
     };
     (0..=tables.size()).map(|d| d > 0 && wanted(d)).collect()
 }

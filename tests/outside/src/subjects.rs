@@ -43,6 +43,24 @@ impl Subject for Wrong {
             (1, Case::Search(t, q, _)) if q.levels.is_some_and(|(_, high)| high == 254) => {
                 t.level.iter_mut().filter(|l| **l == 255).for_each(|l| *l = 254);
             }
+            // 0 satisfies a window from 1
+            (19, Case::Search(t, q, _)) if q.levels.is_some_and(|(low, _)| low == 1) => {
+                t.level.iter_mut().filter(|l| **l == 0).for_each(|l| *l = 1);
+            }
+            // a low of 0 is taken
+            (20, Case::Search(_, q, _)) if q.levels.is_some_and(|(low, _)| low == 0) => {
+                q.levels = q.levels.map(|(_, high)| (1, high));
+            }
+            // the lowest true level is refused
+            (21, Case::Search(_, q, _)) if q.levels.is_some_and(|(low, _)| low == 1) => {
+                q.levels = q.levels.map(|(_, high)| (0, high));
+            }
+            // a device line with level 0 is refused
+            (22, Case::Plant(text, _)) => {
+                if let Some(at) = text.windows(7).position(|w| w == b"(dev 0\n") {
+                    text.splice(at + 5..at + 6, *b"256");
+                }
+            }
             // an unknown required term is no condition
             (2, Case::Search(t, q, _)) => {
                 q.required.retain(|&term| !(1..=65_535).contains(&term) || t.terms.contains(&(term as u16)));
