@@ -250,7 +250,7 @@ fn refusal(t: &Tables, q: &Query, room: usize) -> u32 {
     if q.required.iter().chain(&q.forbidden).any(|&x| x == 0 || x > 65_535) {
         return 11;
     }
-    if q.levels.is_some_and(|(low, high)| high < low || high > 254) {
+    if q.levels.is_some_and(|(low, high)| high < low || low == 0 || high > 254) {
         return 12;
     }
     if q.start == 0 || q.start as usize > t.last.len() + 1 {
