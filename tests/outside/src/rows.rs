@@ -64,7 +64,7 @@ fn rows_over_p() {
     assert_eq!(response(P, "(level 0 254)\n"), "(refused query 12)\n");
 }
 
-/// Device 1 at 0 and device 2 at 1: 0 is in no range, as 255 is, and 1 is the lowest level.
+/// Device 1 at 0, device 2 at 1: neither 0 nor 255 is in a range, and 1 is the lowest level.
 #[test]
 fn level_0_is_none() {
     let plant = b"(plant\n(dev 0\n(dev 1\n)\n(dev 255\n)\n(dev 254\n)\n)\n)\n";
