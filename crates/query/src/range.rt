@@ -1,9 +1,8 @@
 // Which level codes are true levels, and which a query wants.
 ghost use mathlib.Core.Path.{_≡_};
-ghost use mathlib.Core.Bool.{_&&_};
-ghost use lib.Dec.{leb};
 ghost use Rattle.plant.specs.Levels.{true-level};
 ghost use Rattle.query.specs.Query.{in-range};
+ghost use Rattle.query.specs.declared.Levels.{Levels};
 use crate::Levels;
 use crate::Query;
 
@@ -16,7 +15,7 @@ pub fn true_level(code: u32) -> bool
 
 // Whether a level code lies in the range low..high of true levels.
 fn between(low: u32, high: u32, code: u32) -> bool
-    ensures { λ r. ⌜ r ≡ (leb low code && leb code high && true-level code) ⌝ }
+    ensures { λ r. ⌜ r ≡ in-range (Levels.Range low high) code ⌝ }
 {
     if code < low || high < code {
         return false;

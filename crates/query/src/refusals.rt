@@ -1,11 +1,9 @@
 // The refusals of a query: small tables, one after another, as the definition has them. Each can be asked of any query.
 ghost use mathlib.Core.Path.{_≡_};
-ghost use mathlib.Core.Bool.{_||_, not};
-ghost use lib.Dec.{ltb};
 ghost use Rattle.laws.specs.Rows.{otherwise};
-ghost use Rattle.plant.specs.Levels.{true-level};
 ghost use Rattle.query.specs.Query.{used};
 ghost use Rattle.query.specs.Refusals.{no-terms, no-range, count-rows, term-rows, level-rows, start-rows, room-rows, common-refusal, query-refusal};
+ghost use Rattle.query.specs.declared.Levels.{Levels};
 use crate::Levels;
 use crate::Query;
 use crate::Terms;
@@ -45,7 +43,7 @@ fn any_no_term(terms: Terms) -> bool
 
 // Whether low..high is no range of true levels.
 fn wrong_bounds(low: u32, high: u32) -> bool
-    ensures { λ r. ⌜ r ≡ (ltb high low || not (true-level low) || not (true-level high)) ⌝ }
+    ensures { λ r. ⌜ r ≡ no-range (Levels.Range low high) ⌝ }
 {
     if high < low || !true_level(low) {
         return true;
