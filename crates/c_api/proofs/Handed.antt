@@ -14,8 +14,11 @@ use Rattle.written_text.specs.Refusals.{write-refusal}
 use Rattle.written_text.specs.RoundTrip.{RoundTrips}
 use Rattle.plant_writer.specs.Write.{text-after, written-number, written-length, length-of}
 use Rattle.plant_writer.specs.declared.Written.{Written}
+use Rattle.repair.specs.Outcome.{repaired-number, repaired-values}
+use Rattle.repair.specs.Promises.{RepairGives}
+use Rattle.repair.specs.declared.Repaired.{Repaired}
 use Rattle.c_api.specs.Handing.{numbers-of, outcome-numbers}
-use Rattle.c_api.specs.Interface.{SearchHanded, PlantHanded, TextHanded}
+use Rattle.c_api.specs.Interface.{SearchHanded, PlantHanded, TextHanded, RepairHanded}
 
 -- a search of the query that was handed over is a search of the same query, built anew
 pub search-handed : {P : Plant} {I : Index} {q Q : Query} {out out′ : List ℕ} {a : Answer} → q ≡ Q → Searched P I q out out′ a
@@ -38,3 +41,14 @@ module _ {text : List ℕ} {P P′ : Plant} {I I′ : Index} {o : Outcome} where
 pub text-handed : {P : Plant} {I : Index} {text text′ : List ℕ} (w : Written) {n r : ℕ} → text′ ≡ text-after P I text → written-number w ≡ write-refusal P I (length text) →
     written-length w ≡ length-of P I (length text) → RoundTrips P I (length text) → n ≡ written-length w → r ≡ written-number w → TextHanded P I text text′ (n ∷ []) r
 text-handed w {n} e p l t q s = record { refusal = s ∙ p; numbers = ap (λ (x : ℕ). x ∷ []) (q ∙ l); written = e; trips = t }
+
+pub repair-handed : {P : Plant} {I : Index} {lent starts′ postings′ report′ : List ℕ} {o : Repaired} → RepairGives P I lent starts′ postings′ report′ o
+    → {two : List ℕ} → two ≡ repaired-values o → {r : ℕ} → r ≡ repaired-number o → RepairHanded P I lent starts′ postings′ report′ two r
+repair-handed g f e = record {
+  refusal = e ∙ g .number;
+  numbers = f ∙ g .values;
+  starts = g .starts;
+  postings = g .postings;
+  report = g .report;
+  promised = g .promised;
+}

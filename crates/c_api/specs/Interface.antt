@@ -12,6 +12,9 @@ use Rattle.plant_text.specs.PlantText.{outcome-number, outcome-after, plant-aft
 use Rattle.written_text.specs.Refusals.{write-refusal}
 use Rattle.written_text.specs.RoundTrip.{RoundTrips}
 use Rattle.plant_writer.specs.Write.{text-after, length-of}
+use Rattle.repair.specs.Refusals.{repair-refusal}
+use Rattle.repair.specs.Outcome.{starts-after, postings-after, report-after, values-of}
+use Rattle.repair.specs.Promises as repairs
 use Rattle.c_api.specs.Handing.{numbers-of, outcome-numbers}
 
 -- `plant_search_search`: the refusal r, the four numbers beside it and the answer list, which was `out`
@@ -34,3 +37,12 @@ pub record TextHanded (P : Plant) (I : Index) (text text′ one : List ℕ) (r :
   pub numbers : one ≡ length-of P I (length text) ∷ []
   pub written : text′ ≡ text-after P I text
   pub trips : RoundTrips P I (length text)
+
+-- `plant_search_repair`: the refusal r, the two numbers beside it, starts and postings, which were those of I, and the report, which was `lent`
+pub record RepairHanded (P : Plant) (I : Index) (lent starts′ postings′ report′ two : List ℕ) (r : ℕ) : Type 0 where
+  pub refusal : r ≡ repair-refusal P I (length lent)
+  pub numbers : two ≡ values-of P I (length lent)
+  pub starts : starts′ ≡ starts-after P I (length lent)
+  pub postings : postings′ ≡ postings-after P I (length lent)
+  pub report : report′ ≡ report-after P I lent
+  pub promised : repairs.Promised P I lent

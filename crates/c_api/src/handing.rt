@@ -3,6 +3,7 @@ ghost use mathlib.Core.Path.{_≡_};
 ghost use Rattle.c_api.specs.Handing.{levels-of, query-of, level-numbers, query-numbers, outcome-numbers};
 ghost use Rattle.plant_text.specs.PlantText.{outcome-number};
 ghost use Rattle.plant_writer.specs.Write.{written-number, written-length};
+ghost use Rattle.repair.specs.Outcome.{repaired-number, repaired-values};
 use integers::u32_to_usize;
 use plant_text::Outcome;
 use plant_writer::Written;
@@ -10,6 +11,7 @@ use query::Levels;
 use query::Query;
 use query::terms_of;
 use query_text::QueryRead;
+use repair::Repaired;
 
 // Any level code, or a range of them.
 fn levels_of(ranged: u32, low: u32, high: u32) -> Levels
@@ -112,5 +114,25 @@ pub fn written_length(written: Written) -> usize
     match written {
         Written::Made(length) => length,
         Written::Refused(_) => 0,
+    }
+}
+
+// The refusal of an index that was to be repaired, or 0.
+pub fn repaired_refusal(repaired: Repaired) -> u32
+    ensures { λ r. ⌜ r ≡ repaired-number repaired ⌝ }
+{
+    match repaired {
+        Repaired::Made(_, _) => 0,
+        Repaired::Refused(refusal) => refusal,
+    }
+}
+
+// How many postings were dropped and how many are left, or zeros.
+pub fn repaired_numbers(repaired: Repaired) -> [usize; 2]
+    ensures { λ r. ⌜ r ≡ repaired-values repaired ⌝ }
+{
+    match repaired {
+        Repaired::Made(dropped, left) => [dropped, left],
+        Repaired::Refused(_) => [0, 0],
     }
 }

@@ -7,11 +7,13 @@ ghost use Rattle.index.specs.Index.{index};
 ghost use Rattle.query_text.specs.QueryText.{read-query};
 ghost use Rattle.respond.specs.Respond.{Responds};
 ghost use Rattle.c_api.specs.Handing.{levels-of, query-of, query-numbers};
-ghost use Rattle.c_api.specs.Interface.{SearchHanded, PlantHanded, TextHanded};
+ghost use Rattle.c_api.specs.Interface.{SearchHanded, PlantHanded, TextHanded, RepairHanded};
 use handing::outcome_numbers;
 use handing::outcome_refusal;
 use handing::query_numbers;
 use handing::query_of;
+use handing::repaired_numbers;
+use handing::repaired_refusal;
 use handing::written_length;
 use handing::written_refusal;
 
@@ -113,6 +115,29 @@ pub extern "C" fn plant_search_write_plant(
     let written = plant_writer::write(last, root, level, terms, starts, postings, text);
     *numbers = [written_length(written)];
     written_refusal(written)
+}
+
+// Repairs the lists of an index: the refusal, and in `numbers` how many postings were dropped and how many are left. What is dropped goes to the
+// front of `report`; what is behind it stays, and so does all where the index is refused.
+#[no_mangle]
+pub extern "C" fn plant_search_repair(
+    last: &[u16],
+    root: &[u16],
+    level: &[u8],
+    terms: &[u16],
+    starts: &mut [u32],
+    postings: &mut [u32],
+    report: &mut [u32],
+    numbers: &mut [usize; 2],
+) -> u32
+    ensures { λ r. ⌜ RepairHanded
+        (plant (now (last .entry)) (now (root .entry)) (now (level .entry)))
+        (index (now (terms .entry)) (now (starts .entry)) (now (postings .entry)))
+        (now (report .entry)) (now (starts .exit)) (now (postings .exit)) (now (report .exit)) (now (numbers .exit)) r ⌝ }
+{
+    let repaired = repair::repair(last, root, level, terms, starts, postings, report);
+    *numbers = repaired_numbers(repaired);
+    repaired_refusal(repaired)
 }
 
 // Reads query text: the refusal, the terms in eight places each, and the other numbers of the query. A refusal gives the empty query.

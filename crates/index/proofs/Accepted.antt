@@ -11,19 +11,26 @@ use Rattle.plant.specs.Plant.{Plant, size, plant-refusal}
 use Rattle.laws.specs.inner.Entries.{IsEntry}
 use Rattle.index.specs.Postings.{device}
 use Rattle.index.specs.Forward.{Sorted}
-use Rattle.index.specs.inner.Lists.{SoundList}
+use Rattle.plant.proofs.Forest as forests
+use Rattle.index.specs.inner.Lists.{SoundList, Held}
+use Rattle.index.specs.inner.Outlined.{Outlined}
 use Rattle.index.specs.Index.{Index, count, list, is-term, list-of, misplaced-term, wrong-start, stray, misplaced-in, redundant-in, unfit, index-rows, tables-refusal, most-terms, most-postings}
 use Rattle.laws.proofs.Tests.{tests, or-no}
 use Rattle.laws.proofs.Cases.{by-order, split-cond}
 use Rattle.laws.proofs.Rows.{otherwise-none, pick-none}
 use Rattle.laws.proofs.Search.{none-yet, none-any, any-none, lowest-of}
 use Rattle.index.proofs.Lists.{here, previous, ranged, rises, not-falling}
-use Rattle.index.proofs.Starts.{entry-next}
+use Rattle.index.proofs.Outline.{outlined, outline-passed}
+use Rattle.index.proofs.Starts.{start-bounds}
 
 -- the devices of a list lie above a, up to n, and rise strictly
 abbrev pub Rising : ℕ → ℕ → List ℕ → Type 0
 Rising n a [] = Unit
 Rising n a (q ∷ qs) = (a < device q) × (device q ≤ n) × Rising n (device q) qs
+
+-- in accepted device tables each branch holds its device
+pub branches-held : (P : Plant) → plant-refusal P ≡ 0 → Held (P .last)
+branches-held P z = let s = forests.accepted P z in record { held = λ d e. s .own d (e .first) (e .last) }
 
 -- what the rows come to where none applies
 pub record Accepted (P : Plant) (I : Index) : Type 0 where
@@ -41,30 +48,37 @@ pub accepted : (P : Plant) (I : Index) → tables-refusal P I ≡ 0 → Accepted
 unfolding tables-refusal index-rows
 accepted P I h =
     let a = otherwise-none (plant-refusal P) (index-rows 5 (P .last) I) h in
-    let r5 = pick-none (unfit I) 4 _ (a .1) in
-    let r6 = pick-none (any (count I) (misplaced-term I)) 5 _ (r5 .1) in
-    let r7 = pick-none (any (count I) (wrong-start I) || stray I) 6 _ (r6 .1) in
-    let r8 = pick-none (any (count I) (misplaced-in (size P) I)) 7 _ (r7 .1) in
+    let o = outlined 5 I _ (omega arith) (a .1) in
+    let r8 = pick-none (any (count I) (misplaced-in (size P) I)) 7 _ (o .1) in
     let r9 = pick-none (any (count I) (redundant-in (P .last) I)) 8 _ (r8 .1) in
-    let fit = simp tests at (r5 .0) in
-    let starts = or-no (any (count I) (wrong-start I)) (stray I) .0 (r7 .0) in record {
+    record {
       tables = a .0;
-      even = omega arith;
-      few-terms = omega arith;
-      few-postings = omega arith;
-      terms-rise = r6 .0;
-      starts-rise = starts .0;
-      none-stray = starts .1;
+      even = o .0 .even;
+      few-terms = o .0 .few-terms;
+      few-postings = o .0 .few-postings;
+      terms-rise = o .0 .terms-rise;
+      starts-rise = o .0 .starts-rise;
+      none-stray = o .0 .none-stray;
       devices-rise = r8 .0;
       none-redundant = r9 .0;
+    }
+
+-- its lists lie one after another
+pub outline-of : {P : Plant} {I : Index} → Accepted P I → Outlined I
+outline-of a =
+    record {
+      even = a .even;
+      few-terms = a .few-terms;
+      few-postings = a .few-postings;
+      terms-rise = a .terms-rise;
+      starts-rise = a .starts-rise;
+      none-stray = a .none-stray;
     }
 
 -- what is accepted is refused by none of 1 to 9
 pub accepts : (P : Plant) (I : Index) → Accepted P I → tables-refusal P I ≡ 0
 unfolding tables-refusal index-rows
-accepts P I a =
-    let fit : unfit I ≡ false = let x = a .even in let y = a .few-terms in let z = a .few-postings in simp tests (omega arith) in
-    rw (a .tables, fit, a .terms-rise, a .starts-rise, a .none-stray, a .devices-rise, a .none-redundant)
+accepts P I a = rw (a .tables, a .devices-rise, a .none-redundant) (outline-passed 5 I 0 (outline-of a))
 
 -- the device before index k of a list that stands after device a
 abbrev prior : ℕ → List ℕ → ℕ → ℕ
@@ -112,19 +126,15 @@ module _ {last l : List ℕ} (s : SoundList last l) where
   pub sound-few : length l ≤ length last
   sound-few = omega (arith, rising-few (length last) 0 l sound-rising)
 
+-- where none of the rows applies
+pub accepted-outline : (P : Plant) (I : Index) → tables-refusal P I ≡ 0 → Outlined I
+accepted-outline P I none = outline-of (accepted P I none)
+
 module _ (P : Plant) (I : Index) (none : tables-refusal P I ≡ 0) where
   -- each list starts no later than it ends, and ends within the postings
   pub bounds : (k : ℕ) → 1 ≤ k → k ≤ count I
       → (entry (I .starts) k ≤ getD (I .starts) k (length (I .postings))) × (getD (I .starts) k (length (I .postings)) ≤ length (I .postings))
-  bounds k a b =
-      let h = accepted P I none in
-      by-order k (count I)
-      (λ v. let e = entry-next (I .starts) k (length (I .postings)) (omega arith) in
-      let f = previous (λ s. s) (I .starts) k in
-      let r = simp tests at (none-any (wrong-start I) (h .starts-rise) (k + 1) (omega arith) (omega arith)) in
-      let w = r .0 .1 (omega arith) in omega arith)
-      (λ v. let e = List·getD-eq-default (I .starts) (length (I .postings)) {n = k} (omega arith) in
-      let r = simp tests at (none-any (wrong-start I) (h .starts-rise) k a b) in omega arith)
+  bounds = start-bounds I (accepted-outline P I none)
 
   -- the list of the k-th term
   pub accepted-list : (k : ℕ) → 1 ≤ k → k ≤ count I → SoundList (P .last) (list I k)

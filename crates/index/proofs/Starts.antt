@@ -8,16 +8,30 @@ use lib.Dec.{eqb}
 use lib.ListN.{length, getD, List·getD-eq-default}
 use Rattle.laws.specs.Search.{any}
 use Rattle.laws.specs.Tables.{entry}
-use Rattle.index.specs.Index.{index, list, wrong-start, stray}
+use Rattle.index.specs.Index.{Index, index, count, list, wrong-start, stray}
+use Rattle.index.specs.inner.Outlined.{Outlined}
 use Rattle.laws.proofs.Tests.{tests, agree, or-yes, or-no}
 use Rattle.laws.proofs.Cases.{by-order}
 use Rattle.laws.proofs.Lists.{getD-within}
-use Rattle.laws.proofs.Search.{None, none-yet, none-up, any-found, any-none}
+use Rattle.laws.proofs.Search.{None, none-yet, none-up, none-any, any-found, any-none}
 use Rattle.index.proofs.Lists.{here, previous}
 
 -- the entry after entry k, where the table has one, whatever is read past its end
 pub entry-next : (l : List ℕ) (k d : ℕ) → k < length l → getD l k d ≡ entry l (k + 1)
 entry-next l k d u = getD-within l k d 0 u ∙ sym (here (λ s. s) l k)
+
+-- where no start is wrong, each list starts no later than it ends, and ends within the postings
+pub start-bounds : (I : Index) → Outlined I → (k : ℕ) → 1 ≤ k → k ≤ count I
+    → (entry (I .starts) k ≤ getD (I .starts) k (length (I .postings))) × (getD (I .starts) k (length (I .postings)) ≤ length (I .postings))
+start-bounds I o k a b =
+    let h = o .even in
+    by-order k (count I)
+    (λ v. let e = entry-next (I .starts) k (length (I .postings)) (omega arith) in
+    let f = previous (λ s. s) (I .starts) k in
+    let r = simp tests at (none-any (wrong-start I) (o .starts-rise) (k + 1) (omega arith) (omega arith)) in
+    let w = r .0 .1 (omega arith) in omega arith)
+    (λ v. let e = List·getD-eq-default (I .starts) (length (I .postings)) {n = k} (omega arith) in
+    let r = simp tests at (none-any (wrong-start I) (o .starts-rise) k a b) in omega arith)
 
 -- a pass over the starts from the last down: `next` is where the list after the k-th starts, and the later lists start in order
 pub record Down (starts postings : List ℕ) (k next : ℕ) : Type 0 where

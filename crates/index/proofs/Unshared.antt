@@ -7,7 +7,9 @@ use native.Mathlib.Omega.{arith}
 use lib.Dec.{leb, ltb, eqb}
 use borrow.Author.Tests.{eqb-false}
 use Rattle.laws.proofs.Tests.{tests, flags, agree}
+use Rattle.laws.specs.Search.{any}
 use Rattle.laws.proofs.Cases.{either}
+use Rattle.laws.proofs.Joined.{some, some-cons}
 use Rattle.index.specs.Postings.{device, reach, carries}
 use Rattle.index.specs.Unshared.{count-up, unshared, member}
 
@@ -43,3 +45,12 @@ unfolding member unshared carried-by
 member-unshared last [] d = refl
 member-unshared last (q ∷ qs) d =
     rw (member-append d (count-up (device q) (reach last q + 1 - device q)) (unshared last qs), member-carries last q d, member-unshared last qs d)
+
+carried-some : (last l : List ℕ) (d : ℕ) → carried-by last l d ≡ some (λ q. carries last q d) l
+unfolding carried-by any
+carried-some last [] d = refl
+carried-some last (q ∷ qs) d = rw (carried-some last qs d) (sym (some-cons (λ p. carries last p d) q qs))
+
+-- and so where a search through the postings finds one that does
+pub unshared-some : (last l : List ℕ) (d : ℕ) → member d (unshared last l) ≡ some (λ q. carries last q d) l
+unshared-some last l d = member-unshared last l d ∙ carried-some last l d

@@ -70,15 +70,21 @@ misplaced-in n I k = any (length (list I k)) (misplaced n device (list I k))
 abbrev pub redundant-in : List ℕ → Index → ℕ → Bool
 redundant-in last I k = any (length (list I k)) (redundant last (list I k))
 
--- document 01's rows for the store, numbered from `first` on: the first that applies, or 0. They read no more of a plant than `last`.
-unfoldable pub index-rows : ℕ → List ℕ → Index → ℕ
-index-rows first last I =
+-- document 01's rows for the store that say where its lists lie, numbered from `first` on, and then the rest
+abbrev pub outline-rows : ℕ → Index → ℕ → ℕ
+outline-rows first I rest =
     pick (unfit I) first
     (pick (any (count I) (misplaced-term I)) (first + 1)
     (pick (any (count I) (wrong-start I) || stray I) (first + 2)
+    rest))
+
+-- document 01's rows for the store, numbered from `first` on: the first that applies, or 0. They read no more of a plant than `last`.
+unfoldable pub index-rows : ℕ → List ℕ → Index → ℕ
+index-rows first last I =
+    outline-rows first I
     (pick (any (count I) (misplaced-in (length last) I)) (first + 3)
     (pick (any (count I) (redundant-in last I)) (first + 4)
-    0))))
+    0))
 
 -- the rows for device tables, and then those for the store, 5 to 9: the lowest number that applies, or 0
 unfoldable pub tables-refusal : Plant → Index → ℕ

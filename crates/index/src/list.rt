@@ -4,8 +4,9 @@ use integers::one_less;
 use integers::u16_to_u32;
 use integers::u32_to_usize;
 ghost use mathlib.Core.Path.{_≡_};
-ghost use mathlib.Core.List.{[]};
-ghost use lib.ListN.{length, getD};
+ghost use mathlib.Core.List.{[], _++_};
+ghost use Prim.Native.Nat.{_-_};
+ghost use lib.ListN.{length, getD, take, replicate};
 ghost use lib.Seq.{slice};
 ghost use Rattle.index.specs.Index.{index, list};
 ghost use Rattle.index.specs.Around.{Around};
@@ -76,4 +77,15 @@ fn part(table: &[u32], start: usize, end: usize) -> &[u32]
     let to = least(end, table.len());
     let from = least(start, to);
     &table[from..to]
+}
+
+// Sets the entries from index `from` on to 0.
+pub fn clear(table: &mut [u32], from: usize)
+    ensures { λ _. ⌜ now (table .exit) ≡ take from (now (table .entry)) ++ replicate (length (now (table .entry)) - from) 0 ⌝ }
+{
+    let mut i = from;
+    while i < table.len() {
+        table[i] = 0;
+        i += 1;
+    }
 }

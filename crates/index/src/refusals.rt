@@ -14,7 +14,7 @@ ghost use Rattle.laws.specs.Limits.{highest-term};
 ghost use Rattle.laws.specs.Search.{any};
 ghost use Rattle.plant.specs.Plant.{plant};
 ghost use Rattle.index.specs.Postings.{device, outside, not-rising, misplaced};
-ghost use Rattle.index.specs.Index.{index, wrong-start, stray, misplaced-in, index-rows, tables-refusal};
+ghost use Rattle.index.specs.Index.{index, wrong-start, stray, misplaced-in, outline-rows, index-rows, tables-refusal};
 ghost use Rattle.index.specs.inner.Lists.{Held, faulty, faulty-in};
 
 // The lowest refusal number that applies to the device tables and the index, or 0.
@@ -59,14 +59,9 @@ fn rows_over(
         (index (now (terms .entry)) (now (starts .entry)) (now (postings .entry))) ⌝ }
 {
     let number = u16_to_u32(first);
-    if starts.len() != terms.len() || 8_192 < terms.len() || 1_048_576 < postings.len() {
-        return number;
-    }
-    if any_misplaced_term(terms) {
-        return number + 1;
-    }
-    if any_wrong_start(starts, postings) {
-        return number + 2;
+    let row = outline_row(terms, starts, postings);
+    if row != 0 {
+        return number + (row - 1);
     }
     if !any_fault(last, checked, starts, postings) {
         return 0;
@@ -75,6 +70,22 @@ fn rows_over(
         return number + 3;
     }
     number + 4
+}
+
+// Which of the three rows applies that say where lists lie: its number among them, from 1 on, or 0.
+pub fn outline_row(terms: &[u16], starts: &[u32], postings: &[u32]) -> u32
+    ensures { λ r. ⌜ r ≡ outline-rows 1 (index (now (terms .entry)) (now (starts .entry)) (now (postings .entry))) 0 ⌝ }
+{
+    if starts.len() != terms.len() || 8_192 < terms.len() || 1_048_576 < postings.len() {
+        return 1;
+    }
+    if any_misplaced_term(terms) {
+        return 2;
+    }
+    if any_wrong_start(starts, postings) {
+        return 3;
+    }
+    0
 }
 
 // Whether a term is out of range or not above the one before it. No term is above 65,535.
@@ -190,7 +201,7 @@ fn misplaced_in(most: usize, list: &[u32]) -> bool
 }
 
 // Whether a posting's device is not among 1 to `most`.
-fn outside_in(most: usize, list: &[u32]) -> bool
+pub fn outside_in(most: usize, list: &[u32]) -> bool
     ensures { λ r. ⌜ r ≡ any (length (now (list .entry))) (outside most device (now (list .entry))) ⌝ }
 {
     let mut k = 0;

@@ -7,3 +7,5 @@ pub mod Lists
 pub mod Maps
 pub mod Front
 pub mod Tally
+pub mod Joined
+pub mod Clearing

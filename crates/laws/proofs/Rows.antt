@@ -1,5 +1,5 @@
 -- Tables of refusals, one after another.
-use Prim.Native.Nat.{ℕ, zero, suc}
+use Prim.Native.Nat.{ℕ, zero, suc, _≤_}
 use mathlib.Core.Path.{_≡_, refl}
 use mathlib.Core.Bool.{Bool, true, false, _||_}
 use native.Mathlib.Omega.{arith}
@@ -20,9 +20,12 @@ otherwise-none zero rest h = (refl, h)
 otherwise-none (suc n) rest h = absurd (omega arith)
 
 -- no row of a table applies: not its first, nor one of the rest
+pub pick-past : (b : Bool) (n rest : ℕ) → 1 ≤ n → pick b n rest ≡ 0 → (b ≡ false) × (rest ≡ 0)
+pick-past true n rest u h = absurd (omega arith)
+pick-past false n rest u h = (refl, h)
+
 pub pick-none : (b : Bool) (n rest : ℕ) → pick b (suc n) rest ≡ 0 → (b ≡ false) × (rest ≡ 0)
-pick-none true n rest h = absurd (omega arith)
-pick-none false n rest h = (refl, h)
+pick-none b n rest = pick-past b (suc n) rest (omega arith)
 
 -- a row of two tests
 pub pick-or : (a b : Bool) (n m : ℕ) → pick (a || b) n m ≡ pick a n (pick b n m)

@@ -74,7 +74,7 @@ regroup false true true d = refl
 regroup false true false d = refl
 regroup false false c d = refl
 
-any-or : (f g : ℕ → Bool) (n : ℕ) → any n (λ k. f k || g k) ≡ (any n f || any n g)
+pub any-or : (f g : ℕ → Bool) (n : ℕ) → any n (λ k. f k || g k) ≡ (any n f || any n g)
 unfolding any
 any-or f g zero = refl
 any-or f g (suc n) = rw (any-or f g n) (regroup (any n f) (any n g) (f (suc n)) (g (suc n)))

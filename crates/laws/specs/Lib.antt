@@ -3,4 +3,5 @@ pub mod Tables
 pub mod Rows
 pub mod Search
 pub mod Front
+pub mod Joined
 pub mod inner

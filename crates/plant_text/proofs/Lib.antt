@@ -2,7 +2,6 @@
 pub mod Lexing
 mod Reading
 mod Nesting
-mod Clearing
 mod Posts
 mod Index
 mod Whole

@@ -27,6 +27,7 @@ use crate::lines::line_at;
 use crate::lines::start_refusal;
 use crate::terms::Closing;
 use crate::terms::read_terms;
+use index::clear;
 use integers::least;
 
 mod common;
@@ -91,8 +92,8 @@ pub fn read(
     clear16(root, d);
     clear8(level, d);
     clear16(terms, n);
-    clear32(starts, n);
-    clear32(postings, p);
+    clear(starts, n);
+    clear(postings, p);
     r
 }
 
@@ -193,9 +194,8 @@ fn postings_in(r: Outcome) -> usize
     }
 }
 
-// Sets a table to 0 from an index on.
+// Sets a table to 0 from an index on, as `index::clear` does one of 32 bits.
 fn clear8(table: &mut [u8], from: usize)
-    requires { ⌜ from ≤ length (now table) ⌝ }
     ensures { λ _. ⌜ now (table .exit) ≡ take from (now (table .entry)) ++ replicate (length (now (table .entry)) - from) 0 ⌝ }
 {
     let mut i = from;
@@ -206,18 +206,6 @@ fn clear8(table: &mut [u8], from: usize)
 }
 
 fn clear16(table: &mut [u16], from: usize)
-    requires { ⌜ from ≤ length (now table) ⌝ }
-    ensures { λ _. ⌜ now (table .exit) ≡ take from (now (table .entry)) ++ replicate (length (now (table .entry)) - from) 0 ⌝ }
-{
-    let mut i = from;
-    while i < table.len() {
-        table[i] = 0;
-        i += 1;
-    }
-}
-
-fn clear32(table: &mut [u32], from: usize)
-    requires { ⌜ from ≤ length (now table) ⌝ }
     ensures { λ _. ⌜ now (table .exit) ≡ take from (now (table .entry)) ++ replicate (length (now (table .entry)) - from) 0 ⌝ }
 {
     let mut i = from;

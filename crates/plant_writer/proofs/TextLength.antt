@@ -22,7 +22,8 @@ use Rattle.written_text.specs.Forms.{posting-form, term-forms, terms-forms}
 use Rattle.written_text.specs.Text.{bytes-of, text-of}
 use Rattle.written_text.specs.inner.Nested.{Nested, stretch}
 use Rattle.written_text.proofs.Stretches.{nested-all, first-end, nested-first, nested-rest}
-use Rattle.written_text.proofs.Terms.{begin, list-is, ordered, first-begin, last-begin}
+use Rattle.index.proofs.Accepted.{accepted-outline}
+use Rattle.index.proofs.Begins.{begin, list-is, ordered, first-begin, last-begin}
 use Rattle.plant_writer.specs.inner.Lengths.{lines-length, whole-length}
 use Rattle.plant_writer.proofs.Bytes.{word-dev, word-mark, word-own, word-all, word-close, bytes-append, bytes-more, bytes-none, device-bytes, term-bytes, own-bytes, all-bytes, close-bytes, plant-bytes, stretch-end, stretch-bytes, term-parts, text-parts}
 
@@ -96,9 +97,9 @@ term-length t l =
 module _ (P : Plant) (I : Index) (h : tables-refusal P I ≡ 0) where
   terms-length : (n : ℕ) → n ≤ count I → length (bytes-of (terms-forms I n)) ≡ lines-length 9 (λ t. t) (take n (I .terms)) + lines-length 7 device (take (begin I n) (I .postings))
   unfolding terms-forms lines-length
-  terms-length zero u = rw (bytes-none, first-begin P I h)
+  terms-length zero u = rw (bytes-none, first-begin I (accepted-outline P I h))
   terms-length (suc n) u =
-      let o = ordered P I h n (omega arith) in
+      let o = ordered I (accepted-outline P I h) n (omega arith) in
       let z : suc n - 1 ≡ n = omega arith in
       let t = getD (I .terms) n 0 in
       let l = slice (begin I n) (begin I (suc n)) (I .postings) in
@@ -108,7 +109,7 @@ module _ (P : Plant) (I : Index) (h : tables-refusal P I ≡ 0) where
       let g = term-length t l in
       let f = terms-length n (omega arith) in
       let whole : length (bytes-of (terms-forms I (suc n))) ≡ length (bytes-of (terms-forms I n)) + length (bytes-of (term-forms t l)) =
-      rw (list-is P I h n (omega arith), z) (ap length (bytes-append (terms-forms I n) (term-forms t l)) ∙ length-append (bytes-of (terms-forms I n)) (bytes-of (term-forms t l))) in
+      rw (list-is I (accepted-outline P I h) n (omega arith), z) (ap length (bytes-append (terms-forms I n) (term-forms t l)) ∙ length-append (bytes-of (terms-forms I n)) (bytes-of (term-forms t l))) in
       add-up (lines-length 9 (λ t. t) (take n (I .terms))) (lines-length 7 device (take (begin I n) (I .postings))) (length (numeral t)) (lines-length 7 device l) whole f g b a
     where
       add-up : {L A T : ℕ} (x p d q : ℕ) {u v : ℕ} → L ≡ A + T → A ≡ x + p → T ≡ 9 + d + q → u ≡ x + (9 + d + 0) → v ≡ p + q → L ≡ u + v
@@ -121,7 +122,7 @@ module _ (P : Plant) (I : Index) (h : tables-refusal P I ≡ 0) where
       let b = terms-length (count I) (omega arith) in
       let x : take (size P) (P .level) ≡ P .level = take-all (size P) (P .level) (omega (arith, s .levels)) in
       let y : take (count I) (I .terms) ≡ I .terms = take-length (I .terms) in
-      let z : take (begin I (count I)) (I .postings) ≡ I .postings = take-all (begin I (count I)) (I .postings) (omega (arith, last-begin P I h)) in
+      let z : take (begin I (count I)) (I .postings) ≡ I .postings = take-all (begin I (count I)) (I .postings) (omega (arith, last-begin I (accepted-outline P I h))) in
       let p : length (bytes-of (plain plant-line ∷ [])) ≡ 7 = ap length plant-bytes in
       let c = close-length in
       ap length (text-parts P I)

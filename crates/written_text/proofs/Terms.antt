@@ -16,9 +16,10 @@ use Rattle.laws.proofs.Lists.{getD-within}
 use Rattle.laws.proofs.Search.{none-any, any-none}
 use Rattle.plant.specs.Plant.{Plant, plant, size}
 use Rattle.index.specs.Postings.{device, shared, misplaced, shadowed, redundant}
-use Rattle.index.specs.Index.{Index, index, count, list, wrong-start, tables-refusal}
+use Rattle.index.specs.Index.{Index, index, count, list, tables-refusal}
 use Rattle.index.proofs.Lists.{ranged, rises}
-use Rattle.index.proofs.Accepted.{accepted, bounds, accepted-list}
+use Rattle.index.proofs.Accepted.{accepted, accepted-outline, accepted-list}
+use Rattle.index.proofs.Begins.{begin, start-is, list-is, ordered, first-begin, last-begin, begin-within}
 use Rattle.plant_text.specs.PlantText.{Stage, devices, terms, postings, closed, State, line-refusal, next, posting}
 use Rattle.plant_text.specs.declared.Room.{Room}
 use Rattle.text.specs.Forms.{plain, with-number}
@@ -63,46 +64,6 @@ single-next last l j h u =
 posting-is : (q : ℕ) → posting (device q) (shared q) ≡ q
 posting-is q = either (shared q) (λ e. rw e (let z = simp tests at e in omega arith)) (λ e. rw e (let z : q % 2 ≡ 0 = let y = simp tests at e in omega (arith, y) in omega arith))
 
--- ---- where the lists begin and end
-
--- where the list of the term after n terms begins
-abbrev pub begin : Index → ℕ → ℕ
-begin I n = getD (I .starts) n (length (I .postings))
-
-module _ (P : Plant) (I : Index) (h : tables-refusal P I ≡ 0) where
-  start-is : (n : ℕ) → n < count I → entry (I .starts) (suc n) ≡ begin I n
-  start-is n u =
-      let a = accepted P I h in
-      let e : suc n - 1 ≡ n = omega arith in
-      rw e (getD-within (I .starts) n 0 (length (I .postings)) (omega (arith, a .even)))
-
-  pub list-is : (n : ℕ) → n < count I → list I (suc n) ≡ slice (begin I n) (begin I (suc n)) (I .postings)
-  list-is n u = rw (start-is n u)
-
-  pub ordered : (n : ℕ) → n < count I → (begin I n ≤ begin I (suc n)) × (begin I (suc n) ≤ length (I .postings))
-  ordered n u = let b = bounds P I h (suc n) (omega arith) (omega arith) in let s = start-is n u in (omega arith, omega arith)
-
-  first-start : (k : ℕ) → k ≡ 1 → wrong-start I k ≡ false → entry (I .starts) k ≡ 0
-  first-start k e w = let z = simp tests at w in omega (arith, z .0 .0 e)
-
-  pub first-begin : begin I 0 ≡ 0
-  first-begin =
-      let a = accepted P I h in
-      by-order 0 (count I)
-      (λ v.
-      let s = start-is 0 v in
-      let w = first-start 1 refl (none-any (wrong-start I) (a .starts-rise) 1 (omega arith) (omega arith)) in omega arith)
-      (λ v.
-      let e : begin I 0 ≡ length (I .postings) = List·getD-eq-default (I .starts) (length (I .postings)) (omega (arith, a .even)) in
-      let w = (simp tests at (a .none-stray)) (omega arith) in omega arith)
-
-  pub last-begin : begin I (count I) ≡ length (I .postings)
-  last-begin = List·getD-eq-default (I .starts) (length (I .postings)) (omega (arith, accepted P I h .even))
-
-  begin-within : (n : ℕ) → n ≤ count I → begin I n ≤ length (I .postings)
-  begin-within zero u = omega (arith, first-begin)
-  begin-within (suc n) u = ordered n (omega arith) .1
-
 -- ---- what is made of the terms
 
 module _ (r : Room) (P : Plant) (I : Index) (h : tables-refusal P I ≡ 0) (fits : count I ≤ r .terms) (room : length (I .postings) ≤ r .postings) where
@@ -140,7 +101,7 @@ module _ (r : Room) (P : Plant) (I : Index) (h : tables-refusal P I ≡ 0) (fits
     unfolding next
     next-term s =
         let a = accepted P I h in
-        let l : length (take (begin I n) (I .postings)) ≡ begin I n = length-take-le (begin I n) (I .postings) (begin-within P I h n (omega arith)) in
+        let l : length (take (begin I n) (I .postings)) ≡ begin I n = length-take-le (begin I n) (I .postings) (begin-within I (accepted-outline P I h) n (omega arith)) in
         let v : n < length (I .starts) = omega (arith, a .even) in
         rw (l, add-one n, take-suc (I .terms) n 0 u, take-suc (I .starts) n (length (I .postings)) v)
 
@@ -155,21 +116,21 @@ module _ (r : Room) (P : Plant) (I : Index) (h : tables-refusal P I ≡ 0) (fits
       current-is : current ≡ take (p - begin I n) (list I (suc n))
       current-is =
           let a = accepted P I h in
-          let b = ordered P I h n u in
+          let b = ordered I (accepted-outline P I h) n u in
           let l : length (take (n + 1) (I .terms)) ≡ n + 1 = length-take-le (n + 1) (I .terms) (omega arith) in
           let m : length (take p (I .postings)) ≡ p = length-take-le p (I .postings) (omega arith) in
           let o : length (take (n + 1) (I .starts)) ≡ n + 1 = length-take-le (n + 1) (I .starts) (omega (arith, a .even)) in
-          let f : entry (take (n + 1) (I .starts)) (n + 1) ≡ begin I n = entry-front (I .starts) (n + 1) (n + 1) (omega arith) (omega arith) ∙ rw (add-one n) (start-is P I h n u) in
+          let f : entry (take (n + 1) (I .starts)) (n + 1) ≡ begin I n = entry-front (I .starts) (n + 1) (n + 1) (omega arith) (omega arith) ∙ rw (add-one n) (start-is I (accepted-outline P I h) n u) in
           let g : getD (take (n + 1) (I .starts)) (n + 1) p ≡ p = List·getD-eq-default (take (n + 1) (I .starts)) p (omega arith) in
-          rw (l, m, f, g, take-take p p (I .postings) (omega arith), list-is P I h n u) (sym (slice-front (I .postings) (begin I n) p (begin I (suc n)) x (omega arith) (b .1)))
+          rw (l, m, f, g, take-take p p (I .postings) (omega arith), list-is I (accepted-outline P I h) n u) (sym (slice-front (I .postings) (begin I n) p (begin I (suc n)) x (omega arith) (b .1)))
 
       rows-posting : line-refusal r (at (n + 1) p postings) (posting-form q) ≡ 0
       unfolding line-refusal
       rows-posting =
           let s = accepted-list P I h (suc n) (omega arith) (omega arith) in
-          let b = ordered P I h n u in
-          let i : p - begin I n < length (list I (suc n)) = rw (list-is P I h n u) (omega (arith, length-slice (begin I n) (begin I (suc n)) (I .postings) (b .1))) in
-          let e : getD (list I (suc n)) (p - begin I n) 0 ≡ q = rw (list-is P I h n u) (getD-slice (I .postings) (begin I n) p (begin I (suc n)) x y) in
+          let b = ordered I (accepted-outline P I h) n u in
+          let i : p - begin I n < length (list I (suc n)) = rw (list-is I (accepted-outline P I h) n u) (omega (arith, length-slice (begin I n) (begin I (suc n)) (I .postings) (b .1))) in
+          let e : getD (list I (suc n)) (p - begin I n) 0 ≡ q = rw (list-is I (accepted-outline P I h) n u) (getD-slice (I .postings) (begin I n) p (begin I (suc n)) x y) in
           let g = rises-next (size P) device (list I (suc n)) (p - begin I n) refl (s .placed) i in
           let w = single-next (P .last) (list I (suc n)) (p - begin I n) (s .single) i in
           let m : length (take p (I .postings)) ≡ p = length-take-le p (I .postings) (omega arith) in
@@ -188,7 +149,7 @@ module _ (r : Room) (P : Plant) (I : Index) (h : tables-refusal P I ≡ 0) (fits
       next-posting : next (at (n + 1) p postings) (posting-form q) ≡ at (n + 1) (suc p) postings
       unfolding next
       next-posting =
-          let b = ordered P I h n u in
+          let b = ordered I (accepted-outline P I h) n u in
           let v : p < length (I .postings) = omega arith in
           posting-next (at (n + 1) p postings) (device q) (shared q) ∙ rw (posting-is q, take-suc (I .postings) p 0 v)
 
@@ -199,7 +160,7 @@ module _ (r : Room) (P : Plant) (I : Index) (h : tables-refusal P I ≡ 0) (fits
         let z : p ≡ begin I (suc n) = omega arith in
         rw (z, slice-empty (begin I (suc n)) (I .postings)) none
     postings-taken (suc j) p e x =
-        let b = ordered P I h n u in
+        let b = ordered I (accepted-outline P I h) n u in
         let y : p < begin I (suc n) = omega arith in
         let t = postings-taken j (suc p) (omega arith) (omega arith) in
         rw (slice-cons p (begin I (suc n)) (I .postings) 0 y (b .1)) (takes-on (posting-written (device (getD (I .postings) p 0)) (shared (getD (I .postings) p 0))) (rows-posting p x y) (next-posting p x y) t)
@@ -210,15 +171,15 @@ module _ (r : Room) (P : Plant) (I : Index) (h : tables-refusal P I ≡ 0) (fits
 
     term-taken : Takes r (at n (begin I n) (between n)) (term-forms (entry (I .terms) (suc n)) (list I (suc n))) (at (n + 1) (begin I (suc n)) terms)
     term-taken =
-        let b = ordered P I h n u in
+        let b = ordered I (accepted-outline P I h) n u in
         let e : suc n - 1 ≡ n = omega arith in
         let c = close-posting (begin I (suc n)) in
         let ps = postings-taken (begin I (suc n) - begin I n) (begin I n) (omega arith) (omega arith) in
-        rw (list-is P I h n u, e) (takes-on (term t) (rows-term (between n) (begin I n) refl) (next-term (between n)) (takes-append ps (takes-on close (c .0) (c .1) none)))
+        rw (list-is I (accepted-outline P I h) n u, e) (takes-on (term t) (rows-term (between n) (begin I n) refl) (next-term (between n)) (takes-append ps (takes-on close (c .0) (c .1) none)))
 
   terms-taken : (n : ℕ) → n ≤ count I → Takes r (at 0 0 devices) (terms-forms I n) (at n (begin I n) (between n))
   unfolding terms-forms
-  terms-taken zero u = rw (first-begin P I h) none
+  terms-taken zero u = rw (first-begin I (accepted-outline P I h)) none
   terms-taken (suc n) u = takes-append (terms-taken n (omega arith)) (rw (add-one n) at (term-taken n (omega arith)))
 
   close-plant : (k : ℕ) (X : Index) → (line-refusal r (record { stage = between k; opened = []; plant = P; index = X }) (plain close-line) ≡ 0)
@@ -233,6 +194,6 @@ module _ (r : Room) (P : Plant) (I : Index) (h : tables-refusal P I ≡ 0) (fits
   closed-taken =
       let x : take (count I) (I .terms) ≡ I .terms = take-length (I .terms) in
       let y : take (count I) (I .starts) ≡ I .starts = take-all (count I) (I .starts) (omega (arith, accepted P I h .even)) in
-      let z : take (begin I (count I)) (I .postings) ≡ I .postings = take-all (begin I (count I)) (I .postings) (omega (arith, last-begin P I h)) in
+      let z : take (begin I (count I)) (I .postings) ≡ I .postings = take-all (begin I (count I)) (I .postings) (omega (arith, last-begin I (accepted-outline P I h))) in
       let c = close-plant (count I) I in
       takes-append (rw (x, y, z) at (terms-taken (count I) (omega arith))) (takes-on close (c .0) (c .1) none)

@@ -27,6 +27,12 @@ extern "C" {
         text: *mut u8, text_len: usize, numbers: *mut [usize; 1],
     ) -> u32;
 
+    fn plant_search_repair(
+        last: *const u16, last_len: usize, root: *const u16, root_len: usize, level: *const u8, level_len: usize,
+        terms: *const u16, terms_len: usize, starts: *mut u32, starts_len: usize, postings: *mut u32, postings_len: usize,
+        report: *mut u32, report_len: usize, numbers: *mut [usize; 2],
+    ) -> u32;
+
     fn plant_search_read_query(
         text: *const u8, text_len: usize, required: *mut [u32; 8], forbidden: *mut [u32; 8], numbers: *mut [usize; 8],
     ) -> u32;
@@ -138,6 +144,31 @@ pub fn write_plant(t: &Tables, text: &mut [u8]) -> (u32, usize) {
         )
     };
     (refusal, numbers[0])
+}
+
+/// The refusal, how many postings were dropped and how many there are now; starts, postings and report are written to.
+pub fn repair(t: &mut Tables, report: &mut [u32]) -> (u32, [usize; 2]) {
+    let mut numbers = [usize::MAX; 2];
+    let refusal = unsafe {
+        plant_search_repair(
+            t.last.as_ptr(),
+            t.last.len(),
+            t.root.as_ptr(),
+            t.root.len(),
+            t.level.as_ptr(),
+            t.level.len(),
+            t.terms.as_ptr(),
+            t.terms.len(),
+            t.starts.as_mut_ptr(),
+            t.starts.len(),
+            t.postings.as_mut_ptr(),
+            t.postings.len(),
+            report.as_mut_ptr(),
+            report.len(),
+            &mut numbers,
+        )
+    };
+    (refusal, numbers)
 }
 
 /// A query as read: the refusal, the two lists of terms, and line, counts, whether a range is set, low, high, start, budget.

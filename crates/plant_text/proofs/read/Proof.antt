@@ -11,10 +11,10 @@ use Rattle.plant_text.proofs.read.Statement.{statement}
 use Rattle.plant_text.proofs.read.Tie as tie
 
 -- from each step to the one before it: the tables are cleared in their order, after the counts are told and the text is read
-abbrev cleared-starts : tie.After-clear322 → tie.After-clear32
+abbrev cleared-starts : tie.After-clear2 → tie.After-clear
 cleared-starts c = c .before .before .before .before
 
-abbrev cleared-terms : tie.After-clear32 → tie.After-clear163
+abbrev cleared-terms : tie.After-clear → tie.After-clear163
 cleared-terms c = c .before .before .before .before
 
 abbrev cleared-level : tie.After-clear163 → tie.After-clear8
@@ -54,42 +54,6 @@ read-all-requires c κs =
       (fits r, fits-index r),
     )
 
-clear16-requires : tie.Need-clear16-requires
-clear16-requires c κs =
-    let n = c .before in
-    let r = read n in
-    omega (arith, n .before .before .devices-in .ensures, r .read-all .ensures .devices, r .read-all .kept .1 .1 .0, fits (roomed r) .last)
-
-clear16-requires-2 : tie.Need-clear16-requires-2
-clear16-requires-2 c κs =
-    let n = told (c .before .before .before) in
-    let r = read n in
-    omega (arith, n .before .before .devices-in .ensures, r .read-all .ensures .devices, r .read-all .kept .1 .1 .1 .0, fits (roomed r) .root)
-
-clear8-requires : tie.Need-clear8-requires
-clear8-requires c κs =
-    let n = told (cleared-last (c .before .before .before)) in
-    let r = read n in
-    omega (arith, n .before .before .devices-in .ensures, r .read-all .ensures .devices, r .read-all .kept .1 .1 .1 .1 .0, fits (roomed r) .level)
-
-clear16-requires-3 : tie.Need-clear16-requires-3
-clear16-requires-3 c κs =
-    let n = told (cleared-last (cleared-root (c .before .before .before))) in
-    let r = read n in
-    omega (arith, n .before .terms-in .ensures, r .read-all .ensures .terms, r .read-all .kept .1 .1 .1 .1 .1 .0, fits-index (roomed r) .terms)
-
-clear32-requires : tie.Need-clear32-requires
-clear32-requires c κs =
-    let n = told (cleared-last (cleared-root (cleared-level (c .before .before .before)))) in
-    let r = read n in
-    omega (arith, n .before .terms-in .ensures, r .read-all .ensures .terms, r .read-all .kept .1 .1 .1 .1 .1 .1 .0, fits-index (roomed r) .starts)
-
-clear32-requires-2 : tie.Need-clear32-requires-2
-clear32-requires-2 c κs =
-    let n = told (cleared-last (cleared-root (cleared-level (cleared-terms (c .before .before .before))))) in
-    let r = read n in
-    omega (arith, n .postings-in .ensures, r .read-all .ensures .postings, r .read-all .kept .1 .1 .1 .1 .1 .1 .1 .0, fits-index (roomed r) .postings)
-
 returns : tie.Need-returns
 returns c =
     let postings = c .before .before in
@@ -111,12 +75,12 @@ returns c =
     (k .0) (k .1 .0) (k .1 .1 .0) (last .clear16 .ensures) (root .clear162 .ensures) (level .clear8 .ensures) in
     let i =
     index-filled (a .last .now) (a .root .now) (a .level .now) (a .terms .now) (a .starts .now) (a .postings .now) e h (n .before .terms-in .ensures) (n .postings-in .ensures)
-    (k .1 .1 .1 .0) (k .1 .1 .1 .1 .0) (k .1 .1 .1 .1 .1 .0) (terms .clear163 .ensures) (starts .clear32 .ensures) (postings .clear322 .ensures) in
+    (k .1 .1 .1 .0) (k .1 .1 .1 .1 .0) (k .1 .1 .1 .1 .1 .0) (terms .clear163 .ensures) (starts .clear .ensures) (postings .clear2 .ensures) in
     (o, (p, (i, (number-is s o, values-are s o))))
 
 pub read-spec : {M : Type 1} → statement M
 read-spec =
     tie.close
-    (tie.spec (λ c κs. search needs) read-all-requires (λ c κs. search needs) (λ c κs. search needs) (λ c κs. search needs) clear16-requires
-    clear16-requires-2 clear8-requires clear16-requires-3 clear32-requires clear32-requires-2 (λ c. search needs) (λ c. search needs) (λ c. search needs)
+    (tie.spec (λ c κs. search needs) read-all-requires (λ c κs. search needs) (λ c κs. search needs) (λ c κs. search needs) (λ c κs. search needs)
+    (λ c κs. search needs) (λ c κs. search needs) (λ c κs. search needs) (λ c κs. search needs) (λ c κs. search needs) (λ c. search needs) (λ c. search needs) (λ c. search needs)
     (λ c. search needs) (λ c. search needs) (λ c. search needs) returns)

@@ -7,16 +7,10 @@ use Rattle.index.proofs.postings.reach_of.Statement.{statement}
 use Rattle.index.proofs.postings.reach_of.Tie as tie
 
 returns : tie.Need-returns
-returns c =
-    let d = c .before .before .before in
-    c .before .u16-to-usize .ensures ∙ reach-shared (now (d .before .before .args .last)) _ _ (c .if1 .taken) (d .device-of .ensures)
+returns c = c .before .last-of .ensures ∙ reach-shared (now (c .before .before .before .before .args .last)) _ _ (c .if1 .taken) (c .before .before .device-of .ensures)
 
 returns-2 : tie.Need-returns-2
-returns-2 c =
-    let d = c .before .before .before in
-    d .device-of .ensures ∙ reach-private (now (d .before .before .args .last)) _ (c .if1 .left)
+returns-2 c = c .before .before .device-of .ensures ∙ reach-private (now (c .before .before .before .before .args .last)) _ (c .if1 .left)
 
 pub reach-of-spec : {M : Type 1} → statement M
-reach-of-spec =
-    tie.close
-    (tie.spec (λ c κs. search needs) (λ c. search needs) (λ c. search needs) (λ c. search needs) (λ c κs. search needs) returns returns-2)
+reach-of-spec = tie.close (tie.spec (λ c κs. search needs) (λ c κs. search needs) returns returns-2)

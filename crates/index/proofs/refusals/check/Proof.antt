@@ -5,9 +5,8 @@ use denote.Ref.{now}
 use borrow.Author.Needs.{needs}
 use Rattle.plant.specs.Plant.{Plant, plant, plant-refusal}
 use Rattle.index.specs.Index.{Index, index, index-rows, tables-refusal}
-use Rattle.index.specs.inner.Lists.{Held}
+use Rattle.index.proofs.Accepted.{branches-held}
 use Rattle.laws.proofs.Rows.{otherwise-first, otherwise-next}
-use Rattle.plant.proofs.Forest.{accepted}
 use Rattle.index.proofs.refusals.check.Statement.{statement}
 use Rattle.index.proofs.refusals.check.Tie as tie
 
@@ -36,14 +35,10 @@ returns-2 c =
     let s = c .before .before .before .before .before .before .before .before .before in
     told (plant-of s) (index-of s) (c .before .before .check .ensures) (c .before .if1 .left) (c .rows-over .ensures)
 
--- in accepted tables each branch holds its device
-held : (P : Plant) → plant-refusal P ≡ 0 → Held (P .last)
-held P z = let s = accepted P z in record { held = λ d e. s .own d (e .first) (e .last) }
-
 rows-over-requires : tie.Need-rows-over-requires
 rows-over-requires c κs =
     let s = c .before .before .before .before .before .before .before .before in
-    λ _. held (plant-of s) (sym (c .before .check .ensures) ∙ c .if1 .left)
+    λ _. branches-held (plant-of s) (sym (c .before .check .ensures) ∙ c .if1 .left)
 
 pub check-spec : {M : Type 1} → statement M
 check-spec = tie.close (tie.spec (λ c κs. search needs) returns rows-over-requires returns-2)
