@@ -1,8 +1,8 @@
 //! Times the proved search beside plain Rust and other ways to the same listing, and writes docs/BENCHMARK.md.
 //!
-//! `bench` times; `bench quick` shows rough figures and writes nothing, `bench read` those of reading and writing alone;
-//! `bench count common`, `bench count any`, `bench count read` and `bench count write` make each call a fixed number of times, for
-//! callgrind to count instructions.
+//! `bench` times; `bench quick` shows rough figures and writes nothing, `bench read` those of reading and writing alone, and
+//! `bench repair` those of repairing; `bench count common`, `bench count any`, `bench count read`, `bench count write` and
+//! `bench count repair` make each call a fixed number of times, for callgrind to count instructions.
 #[allow(dead_code)]
 #[path = "../../tests/outside/src/ffi.rs"]
 mod ffi;
@@ -19,6 +19,8 @@ mod query_reader;
 #[path = "../../tests/outside/src/random.rs"]
 mod random;
 mod reading;
+mod repairer;
+mod repairing;
 mod report;
 mod respond;
 mod roaring;
@@ -32,6 +34,7 @@ mod writing;
 use paper::{Answer, Query, Tables};
 use plants::{Kind, Size, KINDS};
 use random::Random;
+use repairing::Repairing;
 use std::hint::black_box;
 use time::{clock, seconds, Least, Rounds, Times};
 use ways::{checks_agree, few, proved_steps, Checks, Moves, Taken, Ways};
@@ -201,6 +204,14 @@ fn written(readings: usize) -> [Writing; 2] {
     [MISSION, LONGEST].map(|size| writing::measure(size, 10 * readings))
 }
 
+/// Repairing at both sizes, with doubled postings and without. Of small plants there are more, since a processor learns a few.
+fn repaired(readings: usize) -> Vec<Repairing> {
+    let mission = repairing::Effort { plants: 16, rounds: 10 * readings, spoilt: 100 };
+    let limits = repairing::Effort { plants: 2, rounds: readings / 2, spoilt: 24 };
+    let mission = repairing::measure(["the mission's size", "the mission's size, clean"], MISSION, &mission);
+    mission.into_iter().chain(repairing::measure(["the limits", "the limits, clean"], LIMITS, &limits)).collect()
+}
+
 fn main() {
     let words: Vec<String> = std::env::args().skip(1).collect();
     let words: Vec<&str> = words.iter().map(String::as_str).collect();
@@ -209,6 +220,8 @@ fn main() {
         ["count", "any"] => return count(false),
         ["count", "read"] => return reading::count(MISSION),
         ["count", "write"] => return writing::count(MISSION),
+        ["count", "repair"] => return repairing::count(MISSION),
+        ["repair"] => return print!("{}", report::repairing(&repaired(60))),
         ["read"] => {
             let read = report::reading(MISSION, &reading::measure(MISSION, 60), reading::printing());
             return print!("{read}{}", report::writing(&written(60)));
@@ -220,11 +233,12 @@ fn main() {
             let limits = Effort { queries: 12, passes: 5, whole: 2, steps: 30 };
             (Effort { queries: 40, passes: 10, whole: 25, steps: 40 }, limits, 200)
         }
-        _ => panic!("usage: bench [quick | read | count common | count any | count read | count write]"),
+        _ => panic!("usage: bench [quick | read | repair | count common | count any | count read | count write | count repair]"),
     };
     let measured = [measure("the mission's size", MISSION, mission), measure("the limits", LIMITS, limits)];
     let reading = reading::measure(MISSION, readings);
-    let text = report::whole(&measured, &reading, reading::printing(), &written(readings), &growth(), &skips());
+    let (written, repaired) = (written(readings), repaired(readings));
+    let text = report::whole(&measured, &reading, reading::printing(), &written, &repaired, &growth(), &skips());
     print!("{text}");
     if words.is_empty() {
         std::fs::write(concat!(env!("CARGO_MANIFEST_DIR"), "/../docs/BENCHMARK.md"), &text).unwrap();

@@ -1,7 +1,7 @@
 //! The same checks and cursor steps in plain Rust, as one would write them without proofs.
 use crate::paper::{Answer, Query, Tables};
 
-fn device(posting: u32) -> usize {
+pub fn device(posting: u32) -> usize {
     (posting >> 1) as usize
 }
 
@@ -19,7 +19,7 @@ pub fn reach(last: &[u16], posting: u32) -> usize {
 /// a pass finds a fault do two more tell which it is.
 #[inline(never)]
 pub fn check(t: &Tables) -> u32 {
-    match check_before_postings(t, check_branches_at_once) {
+    match check_but_postings(t) {
         0 if (0..t.starts.len()).any(|k| at_fault(&t.last, list(t, k))) => check_postings(t),
         number => number,
     }
@@ -34,7 +34,14 @@ pub fn check_in_two_passes(t: &Tables) -> u32 {
     }
 }
 
+/// Refusals 1 to 7, with accepted branches gone through once. This and the next are compiled into each caller.
+#[inline(always)]
+pub fn check_but_postings(t: &Tables) -> u32 {
+    check_before_postings(t, check_branches_at_once)
+}
+
 /// Refusals 1 to 7, where `branches` tells 2 and 3.
+#[inline(always)]
 fn check_before_postings(t: &Tables, branches: impl Fn(&[u16]) -> u32) -> u32 {
     let n = t.last.len();
     if t.root.len() != n || t.level.len() != n || n > 65_535 {

@@ -1,12 +1,13 @@
 //! The page that a run writes.
 use crate::plants::Size;
 use crate::reading::{Pair, Reading};
+use crate::repairing::Repairing;
 use crate::time::Times;
 use crate::writing::Writing;
 use crate::{Growth, Measured, Row, Skip, MISSION};
 use std::fmt::Write;
 
-/// The most that a call, a check, a reading or a writing may take, in times of the plain one.
+/// The most that a call, a check, a reading, a writing or a repair may take, in times of the plain one.
 const MOST: f64 = 1.1;
 /// The most that a check may take, in times of the plain one in two passes.
 const MOST_OF_TWO_PASSES: f64 = 0.75;
@@ -227,6 +228,29 @@ fn writing_goals(written: &[Writing]) -> String {
     out
 }
 
+/// Repairing, proved against plain.
+pub fn repairing(repaired: &[Repairing]) -> String {
+    let mut out = String::from("\n## Repairing lists with doubled postings\n\n");
+    out += "A fifth of the postings was put into the lists of sound plants: devices up to eight times, private and shared, and ";
+    out += "devices inside shared branches. From a clean plant nothing is dropped.\n";
+    out += &head(&["", "postings", "dropped", "plain µs", "proved µs", "proved / plain"]);
+    for Repairing { name, size, dropped, repair: Pair { plain, proved } } in repaired {
+        let times = format!("{} | {} | **{:.2}**", micro(*plain), micro(*proved), proved / plain);
+        writeln!(out, "| {name} | {} | {} | {times} |", commas(size.2), commas(*dropped)).unwrap();
+    }
+    out
+}
+
+fn repairing_goals(repaired: &[Repairing]) -> String {
+    let mut out = String::from("\n### Goals for repairing\n");
+    out += &head(&["repairing, proved / plain", "dropped", "ratio", "at most", "goal"]);
+    for Repairing { name, dropped, repair: Pair { plain, proved }, .. } in repaired {
+        let ratio = proved / plain;
+        writeln!(out, "| {name} | {} | {ratio:.2} | {MOST:.2} | {} |", commas(*dropped), met(ratio, MOST)).unwrap();
+    }
+    out
+}
+
 fn tables_grow(growth: &[Growth]) -> String {
     let mut out = String::from("\n## The check grows with the tables\n");
     out += &head(&["tables", "plain µs", "proved µs", "proved / plain", "proved, ns for each device and posting"]);
@@ -251,13 +275,15 @@ fn moves_skip(skips: &[Skip]) -> String {
 }
 
 pub fn whole(
-    measured: &[Measured], read: &Reading, printing: Pair, written: &[Writing], growth: &[Growth], skips: &[Skip],
+    measured: &[Measured], read: &Reading, printing: Pair, written: &[Writing], repaired: &[Repairing], growth: &[Growth],
+    skips: &[Skip],
 ) -> String {
     let all = |each: fn(&Measured) -> String| measured.iter().map(each).collect::<String>();
     let mut out = String::from(include_str!("../before.md"));
     out += &all(figures);
     out += &reading(MISSION, read, printing);
     out += &writing(written);
+    out += &repairing(repaired);
     out += &tables_grow(growth);
     out += &moves_skip(skips);
     out += "\n## Sharing: the figures of document 000\n\n";
@@ -265,7 +291,8 @@ pub fn whole(
     out += "join. Each row has the moves of all its queries together.\n";
     out += &all(sharing);
     out += "\n";
-    let goals = all(goals) + &reading_goal(read) + &writing_goals(written) + &growing(growth, skips);
+    let mut goals = all(goals) + &reading_goal(read) + &writing_goals(written);
+    goals += &(repairing_goals(repaired) + &growing(growth, skips));
     out += &include_str!("../after.md").replace("{goals}", goals.trim());
     out
 }

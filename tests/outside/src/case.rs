@@ -12,6 +12,8 @@ pub enum Case {
     Plant(Vec<u8>, [usize; 6]),
     /// Tables, and the buffer as lent.
     Write(Tables, Vec<u8>),
+    /// Tables, and the report as lent.
+    Repair(Tables, Vec<u32>),
     Query(Vec<u8>),
     Respond(Vec<u8>, Vec<u8>),
 }
@@ -25,6 +27,8 @@ pub enum Outcome {
     Plant(u32, [usize; 4], Tables),
     /// The refusal, the length of the text, and the buffer whole.
     Written(u32, usize, Vec<u8>),
+    /// The refusal, then how many were dropped and how many there are now; the tables and the report whole.
+    Repaired(u32, [usize; 2], Tables, Vec<u32>),
     Query(ReadQuery),
     /// How many bytes are the response, and the lent array whole.
     Bytes(usize, Vec<u8>),
@@ -53,6 +57,11 @@ fn resized(mut t: Tables, room: [usize; 6]) -> Tables {
     t
 }
 
+/// Tables with so many postings.
+fn shortened(t: &Tables, count: usize) -> Tables {
+    Tables { postings: t.postings[..count].to_vec(), ..t.clone() }
+}
+
 impl Case {
     /// What the papers say.
     pub fn expected(&self) -> Outcome {
@@ -68,6 +77,11 @@ impl Case {
                 let (refusal, length) = t.write(&mut buffer);
                 Outcome::Written(refusal, length, buffer)
             }
+            Case::Repair(t, report) => {
+                let (mut t, mut report) = (t.clone(), report.clone());
+                let (refusal, numbers) = t.repair(&mut report);
+                Outcome::Repaired(refusal, numbers, t, report)
+            }
             Case::Query(text) => query_outcome(paper::read_query(text)),
             Case::Respond(plant, query) => {
                 let mut out = paper::respond(plant, query);
@@ -81,7 +95,7 @@ impl Case {
     /// The refusal numbers that an outcome shows.
     pub fn refusal(outcome: &Outcome) -> u32 {
         match outcome {
-            Outcome::Number(n) | Outcome::Plant(n, ..) | Outcome::Written(n, ..) => *n,
+            Outcome::Number(n) | Outcome::Plant(n, ..) | Outcome::Written(n, ..) | Outcome::Repaired(n, ..) => *n,
             Outcome::Answer(answer, _) => answer.refusal,
             Outcome::Query(read) => read.refusal,
             Outcome::Bytes(length, bytes) => {
@@ -108,7 +122,8 @@ impl Case {
         (*same != got).then(|| format!("and back: {self}\nthe same: {}\nthe call: {}", short(same), short(&got)))
     }
 
-    /// What was written is read, and what was read is written, with just enough room and with more: the same comes back.
+    /// What was written is read, and what was read is written, with just enough room and with more: the same comes back. What was
+    /// repaired is accepted, and repairing it again, with no room in the report, changes nothing.
     fn way_back(&self, outcome: &Outcome) -> Vec<(Case, Outcome)> {
         match (self, outcome) {
             (Case::Write(t, _), Outcome::Written(0, length, bytes)) => {
@@ -126,12 +141,17 @@ impl Case {
                 };
                 [0, 3].map(written).into()
             }
+            (Case::Repair(..), Outcome::Repaired(0, [_, count], t, _)) => {
+                let t = shortened(t, *count);
+                let same = Outcome::Repaired(0, [0, *count], t.clone(), vec![]);
+                vec![(Case::Check(t.clone()), Outcome::Number(0)), (Case::Repair(t, vec![]), same)]
+            }
             _ => vec![],
         }
     }
 
     /// Small cases are held to the slow evaluator too.
-    fn against_slow(&self, outcome: &Outcome) -> Option<String> {
+    pub fn against_slow(&self, outcome: &Outcome) -> Option<String> {
         match (self, outcome) {
             (Case::Check(t), Outcome::Number(n)) if t.size() <= 40 && t.postings.len() <= 100 => {
                 let slow = slow::check(t);
@@ -150,9 +170,33 @@ impl Case {
                 let deep = slow::too_deep(t);
                 (deep != (Case::refusal(outcome) == 36)).then(|| format!("more than 32 tiers: {deep}"))
             }
+            (Case::Repair(t, lent), Outcome::Repaired(..)) if t.size() <= 40 && t.postings.len() <= 100 => {
+                repair_against_slow(t, lent, outcome)
+            }
             _ => None,
         }
     }
+}
+
+/// The refusal; then what an accepted repair leaves, or what a refused one changed.
+fn repair_against_slow(t: &Tables, lent: &[u32], outcome: &Outcome) -> Option<String> {
+    let Outcome::Repaired(refusal, [dropped, count], after, report) = outcome else { return None };
+    let slow = slow::repair_refusal(t, lent.len());
+    if slow != *refusal {
+        return Some(format!("repair gives {slow}"));
+    }
+    if slow != 0 {
+        let untouched = after == t && report == lent && [dropped, count] == [&0, &0];
+        return (!untouched).then(|| "a refused repair changed something".into());
+    }
+    let told = 3 * dropped;
+    if report[told..] != lent[told..] {
+        return Some("entries beyond the dropped ones changed".into());
+    }
+    if dropped + count != t.postings.len() || after.postings[*count..].iter().any(|&entry| entry != 0) {
+        return Some("the freed entries are not as many as were dropped, or one is not 0".into());
+    }
+    slow::repair_broken(t, &shortened(after, *count), &report[..told]).map(str::to_string)
 }
 
 fn plant_outcome(read: Result<Tables, Refused>, room: [usize; 6]) -> Outcome {
@@ -213,6 +257,7 @@ impl std::fmt::Display for Case {
             Case::Search(t, q, answer) => write!(f, "search in {t:?}\n{q:?}\nanswer list {answer:?}"),
             Case::Plant(bytes, room) => write!(f, "plant text {:?}\ntables of {room:?}", text(bytes)),
             Case::Write(t, buffer) => write!(f, "writing of {t:?}\ninto {:?}", text(buffer)),
+            Case::Repair(t, report) => write!(f, "repair of {t:?}\nreport {report:?}"),
             Case::Query(bytes) => write!(f, "query text {:?}", text(bytes)),
             Case::Respond(plant, query) => write!(f, "respond to {:?}\nand {:?}", text(plant), text(query)),
         }

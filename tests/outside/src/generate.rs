@@ -2,6 +2,7 @@
 use crate::case::Case;
 use crate::paper::{device_of, Query, Tables};
 use crate::random::Random;
+use crate::repair_cases;
 
 /// A sound forest of n devices. At most `depth` are open together.
 fn forest(r: &mut Random, n: usize, depth: usize) -> Tables {
@@ -69,7 +70,7 @@ fn size(r: &mut Random) -> (usize, usize, usize) {
     }
 }
 
-fn plant(r: &mut Random) -> Tables {
+pub fn plant(r: &mut Random) -> Tables {
     let (n, terms, most) = size(r);
     let depth = r.of(&[1, 3, 32, 70_000]);
     let mut t = forest(r, n, depth);
@@ -108,7 +109,7 @@ fn alter(r: &mut Random, value: u32, n: usize, most: u32) -> u32 {
 }
 
 /// Damage to one place of the tables.
-fn damage(r: &mut Random, t: &mut Tables) {
+pub fn damage(r: &mut Random, t: &mut Tables) {
     let n = t.size();
     macro_rules! entry {
         ($v:expr, $most:expr, $kind:ty) => {{
@@ -485,7 +486,7 @@ fn buffer(r: &mut Random, t: &Tables) -> Vec<u8> {
 }
 
 pub fn case(r: &mut Random) -> Case {
-    match r.below(28) {
+    match r.below(31) {
         0..4 => Case::Check(tables(r)),
         4..10 => {
             let t = tables(r);
@@ -517,11 +518,12 @@ pub fn case(r: &mut Random) -> Case {
             let (t, q) = selective(r);
             Case::Respond(t.text(), query_text(&q))
         }
-        _ => {
+        25..28 => {
             let (t, q) = selective(r);
             let answer = vec![r.next() as u16; t.size()];
             Case::Search(t, q, answer)
         }
+        _ => repair_cases::case(r),
     }
 }
 
@@ -536,7 +538,7 @@ pub const Q: &[u8] = b"(plant\n(dev 100\n(dev 101\n(dev 102\n)\n(dev 103\n)\n(de
 (mark 4\n(own 2)\n(own 3)\n(own 4)\n(own 6)\n(own 8)\n)\n)\n";
 
 /// Cases without chance: each way to damage P in one place, P's text and an ask cut and changed at every byte, every small
-/// query over P and Q, tables of lengths 0 and 1, what is written at each limit, and the longest lists.
+/// query over P and Q, tables of lengths 0 and 1, what is written at each limit, the longest lists, and repairs.
 pub fn systematic() -> Vec<Case> {
     let p = crate::paper::read_plant(P, [9; 6]).unwrap();
     let mut cases = vec![];
@@ -559,6 +561,7 @@ pub fn systematic() -> Vec<Case> {
     long_texts(&p, &mut cases);
     large_tables(&mut cases);
     long_lists(&mut cases);
+    repair_cases::systematic(&mut cases);
     cases
 }
 
@@ -606,6 +609,7 @@ fn damaged_tables(p: &Tables, cases: &mut Vec<Case>) {
                     t.$field[i] = value as $kind;
                     cases.push(Case::Check(t.clone()));
                     cases.push(Case::Write(t.clone(), vec![5; P.len() + 2]));
+                    cases.push(Case::Repair(t.clone(), vec![5; 9]));
                     cases.push(Case::Search(t, Query::empty(), vec![5; 6]));
                 }
             };
@@ -654,6 +658,7 @@ fn short_tables(cases: &mut Vec<Case>) {
             };
             cases.push(Case::Check(t.clone()));
             cases.push(Case::Write(t.clone(), vec![5; 40]));
+            cases.push(Case::Repair(t.clone(), vec![5; 2]));
             for start in 0..3 {
                 let q = Query { required: vec![value], start, ..Query::empty() };
                 cases.push(Case::Search(t.clone(), q, vec![5; length(0)]));
@@ -691,7 +696,7 @@ fn around(t: &Tables, rooms: &[usize], cases: &mut Vec<Case>) {
 }
 
 /// A plant whose devices open on these tiers.
-fn of_tiers(tiers: impl IntoIterator<Item = usize>) -> Tables {
+pub fn of_tiers(tiers: impl IntoIterator<Item = usize>) -> Tables {
     let mut t = Tables::default();
     let mut open: Vec<usize> = vec![];
     for (index, tier) in tiers.into_iter().enumerate() {

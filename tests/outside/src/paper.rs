@@ -52,7 +52,7 @@ impl Tables {
     }
 
     /// The last device that a posting carries its term to.
-    fn reach(&self, posting: u32) -> usize {
+    pub fn reach(&self, posting: u32) -> usize {
         let device = device_of(posting);
         if posting % 2 == 1 {
             self.last_of(device)
@@ -62,7 +62,7 @@ impl Tables {
     }
 
     /// The list of the term at index k: it ends where the next starts, or at the end.
-    fn list(&self, k: usize) -> &[u32] {
+    pub fn list(&self, k: usize) -> &[u32] {
         let end = self.starts.get(k + 1).map_or(self.postings.len(), |&s| s as usize);
         &self.postings[self.starts[k] as usize..end]
     }

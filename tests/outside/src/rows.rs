@@ -1,11 +1,14 @@
-//! Document 01's worked rows over plant P, and more over plant Q, which the plain implementation must give, and what it writes.
+//! Document 01's worked rows over plant P, and more over plant Q, which the plain implementation must give, what it writes and what
+//! it repairs.
 use crate::case::{Case, Outcome};
 use crate::generate::{self, P, Q};
 use crate::paper::{read_plant, read_query, respond, Answer, Query, Tables};
 use crate::random::Random;
+use crate::repair_cases;
 use crate::slow::broken;
 use crate::subjects::Wrong;
 use crate::Subject;
+use std::collections::BTreeSet;
 
 /// The ask lines of a row, its devices, place, postings passed and moves.
 type Row = (&'static str, &'static [u16], u32, u32, u32);
@@ -99,7 +102,7 @@ fn passed_is_bounded() {
 /// Every known mistake is found by the random cases alone.
 #[test]
 fn mistakes_are_found() {
-    for k in 1..=22 {
+    for k in 1..=39 {
         let mut r = Random(1);
         let mut cases = (0..100_000).map(|_| generate::case(&mut r));
         assert!(cases.any(|case| case.difference(&case.expected(), &Wrong(k)).is_some()), "mistake {k}");
@@ -158,6 +161,76 @@ fn text_of_p() {
     assert_eq!(short, vec![7; P.len() - 1]);
 }
 
+/// A repair of one list over P, with room for every posting: the refusal, what is kept and what is reported.
+fn repaired(list: &[u32]) -> (u32, Vec<u32>, Vec<u32>) {
+    let p = read_plant(P, [9; 6]).unwrap();
+    let mut t = Tables { terms: vec![7], starts: vec![0], postings: list.to_vec(), ..p };
+    let mut report = vec![5; 3 * list.len()];
+    let (refusal, [dropped, count]) = t.repair(&mut report);
+    (refusal, t.postings[..count].to_vec(), report[..3 * dropped].to_vec())
+}
+
+#[test]
+fn lists_over_p_are_repaired() {
+    let row = |list: &[u32], kept: &[u32], dropped: &[[u32; 3]]| {
+        assert_eq!(repaired(list), (0, kept.to_vec(), dropped.concat()), "{list:?}");
+    };
+    // of one device the first shared one, else the first
+    row(&[4, 4], &[4], &[[7, 2, 0]]);
+    row(&[4, 5], &[5], &[[7, 2, 0]]);
+    row(&[5, 4, 5], &[5], &[[7, 2, 0], [7, 2, 1]]);
+    // what lies in a branch, also where the branch lies in another
+    row(&[5, 6, 10], &[5, 10], &[[7, 3, 0]]);
+    row(&[3, 5, 8], &[3], &[[7, 2, 1], [7, 4, 0]]);
+    row(&[2, 3, 13], &[3], &[[7, 1, 0], [7, 6, 1]]);
+    row(&[4, 5, 6, 6, 10, 10], &[5, 10], &[[7, 2, 0], [7, 3, 0], [7, 3, 0], [7, 5, 0]]);
+    // what is sound
+    row(&[], &[], &[]);
+    row(&[2, 5, 9], &[2, 5, 9], &[]);
+    assert_eq!(repaired(&[10, 4, 14]).0, 8);
+    assert_eq!(repaired(&[1, 4]).0, 8);
+    assert_eq!(repaired(&[4, 4, 10, 9]).0, 41);
+}
+
+#[test]
+fn a_store_is_repaired() {
+    let p = read_plant(P, [9; 6]).unwrap();
+    let t = Tables { terms: vec![7, 8, 9], starts: vec![0, 3, 3], postings: vec![4, 5, 6, 8, 8], ..p };
+    let mut short = [5; 8];
+    let mut after = t.clone();
+    assert_eq!(after.repair(&mut short), (44, [0, 0]));
+    assert_eq!((&after, short), (&t, [5; 8]));
+    let mut report = [5; 11];
+    assert_eq!(after.repair(&mut report), (0, [3, 2]));
+    assert_eq!(after, Tables { starts: vec![0, 1, 1], postings: vec![5, 8, 0, 0, 0], ..t });
+    assert_eq!(report, [7, 2, 0, 7, 3, 0, 9, 4, 0, 5, 5]);
+}
+
+/// Random repairs.
+fn repairs() -> impl Iterator<Item = Case> {
+    let mut r = Random(1);
+    (0..20_000).map(move |_| repair_cases::case(&mut r))
+}
+
+#[test]
+fn repairs_reach_every_refusal() {
+    let mut systematic = vec![];
+    repair_cases::systematic(&mut systematic);
+    let reached =
+        |cases: &mut dyn Iterator<Item = Case>| -> BTreeSet<u32> { cases.map(|case| Case::refusal(&case.expected())).collect() };
+    let rows = BTreeSet::from([0, 1, 2, 3, 4, 5, 6, 7, 8, 41, 44]);
+    assert_eq!(reached(&mut systematic.into_iter()), rows);
+    assert_eq!(reached(&mut repairs()), rows);
+}
+
+/// The slow evaluator alone finds each mistake of a repair.
+#[test]
+fn slow_finds_mistakes_of_repair() {
+    for k in 23..=39 {
+        assert!(repairs().any(|case| case.against_slow(&Wrong(k).outcome(&case)).is_some()), "mistake {k}");
+    }
+}
+
 /// A plant of these branches and roots, without terms.
 fn bare(last: Vec<u16>, root: Vec<u16>) -> Tables {
     Tables { level: vec![0; last.len()], last, root, ..Tables::default() }
@@ -175,7 +248,7 @@ fn plants_that_are_not_written() {
     assert_eq!(trees(7_281).write(&mut [7; 70_000]), (40, 0));
 }
 
-/// The papers, but every posting that is read is own.
+/// The papers, but every posting that is read is own, and every check gives 9.
 struct ReadsWrong;
 
 impl Subject for ReadsWrong {
@@ -185,6 +258,7 @@ impl Subject for ReadsWrong {
                 t.postings.iter_mut().for_each(|posting| *posting &= !1);
                 Outcome::Plant(refusal, numbers, t)
             }
+            Outcome::Number(_) => Outcome::Number(9),
             outcome => outcome,
         }
     }
@@ -194,8 +268,11 @@ impl Subject for ReadsWrong {
 fn what_comes_back_is_compared() {
     let p = read_plant(P, [9; 6]).unwrap();
     let read = Case::Plant(P.to_vec(), [9; 6]);
-    let written = Case::Write(p, vec![7; P.len()]);
-    for (case, wrong) in [(read, &Wrong(7) as &dyn Subject), (written, &ReadsWrong)] {
+    let written = Case::Write(p.clone(), vec![7; P.len()]);
+    let repair = Case::Repair(p, vec![7; 3]);
+    let wrong: [(_, &dyn Subject); 4] =
+        [(read, &Wrong(7)), (written, &ReadsWrong), (repair.clone(), &ReadsWrong), (repair, &Wrong(34))];
+    for (case, wrong) in wrong {
         assert_eq!(case.expected(), wrong.outcome(&case));
         assert!(case.difference(&case.expected(), wrong).is_some());
         assert!(case.difference(&case.expected(), &Wrong(0)).is_none());

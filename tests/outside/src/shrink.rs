@@ -1,6 +1,7 @@
 //! The smallest case found that still differs: parts are left out and numbers made smaller as long as it does.
 use crate::case::Case;
 use crate::paper::{self, Query, Tables};
+use crate::repair_cases::needed;
 use crate::Subject;
 
 pub fn shrink(mut case: Case, subject: &dyn Subject) -> Case {
@@ -49,7 +50,15 @@ fn candidates(case: &Case) -> Box<dyn Iterator<Item = Case> + '_> {
                 let shorter = cut(buffer, length.saturating_sub(text_length(&smaller)));
                 [Case::Write(smaller.clone(), shorter), Case::Write(smaller, buffer.clone())]
             });
-            Box::new(of_tables.chain(buffers(buffer).into_iter().map(|b| Case::Write(t.clone(), b))))
+            Box::new(of_tables.chain(buffers(buffer, b'.').into_iter().map(|b| Case::Write(t.clone(), b))))
+        }
+        Case::Repair(t, report) => {
+            let length = needed(t);
+            let of_tables = tables(t).flat_map(move |smaller| {
+                let shorter = cut(report, length.saturating_sub(needed(&smaller)));
+                [Case::Repair(smaller.clone(), shorter), Case::Repair(smaller, report.clone())]
+            });
+            Box::new(of_tables.chain(buffers(report, 7).into_iter().map(|r| Case::Repair(t.clone(), r))))
         }
         Case::Query(text) => Box::new(texts(text).map(Case::Query)),
         Case::Respond(plant, query) => {
@@ -73,10 +82,10 @@ fn text_length(t: &Tables) -> usize {
     }
 }
 
-/// A buffer of half the length, one byte shorter, and with the same byte everywhere.
-fn buffers(buffer: &[u8]) -> Vec<Vec<u8>> {
+/// A buffer of half the length, one entry shorter, and with the same entry everywhere.
+fn buffers<T: Copy + PartialEq>(buffer: &[T], filler: T) -> Vec<Vec<T>> {
     let shorter = [buffer.len() / 2, buffer.len().saturating_sub(1)].map(|length| buffer[..length].to_vec());
-    let all = shorter.into_iter().chain([vec![b'.'; buffer.len()]]);
+    let all = shorter.into_iter().chain([vec![filler; buffer.len()]]);
     all.filter(|b| b != buffer).collect()
 }
 

@@ -1,4 +1,5 @@
-//! The slow unshared evaluator: what matches, by writing every list out, and what is promised of a run, with no cursor in it.
+//! The slow unshared evaluator: what matches, by writing every list out, and what is promised of a run, with no cursor in it; what
+//! is promised of a repair.
 use crate::paper::{device_of, Answer, Query, Tables};
 
 /// The last device that a posting carries its term to.
@@ -63,9 +64,8 @@ fn check_devices(t: &Tables) -> u32 {
     0
 }
 
-/// For device tables that were accepted.
-fn check_index(t: &Tables) -> u32 {
-    let n = t.last.len();
+/// Refusals 5 to 7.
+fn check_starts(t: &Tables) -> u32 {
     if t.terms.len() > 8_192 || t.postings.len() > 1_048_576 || t.starts.len() != t.terms.len() {
         return 5;
     }
@@ -77,23 +77,109 @@ fn check_index(t: &Tables) -> u32 {
     if (count == 0 && !t.postings.is_empty()) || (count > 0 && t.starts[0] != 0) || (0..count).any(wrong) {
         return 7;
     }
-    let list = |k: usize| {
-        let end = if k + 1 < count { t.starts[k + 1] as usize } else { t.postings.len() };
-        &t.postings[t.starts[k] as usize..end]
-    };
-    let misplaced = |l: &[u32], i: usize| {
-        let d = device_of(l[i]);
-        d == 0 || d > n || (0..i).any(|j| device_of(l[j]) >= d)
-    };
-    if (0..count).any(|k| (0..list(k).len()).any(|i| misplaced(list(k), i))) {
+    0
+}
+
+/// The lists of an index that none of 5 to 7 refuses.
+fn lists(t: &Tables) -> impl Iterator<Item = &[u32]> {
+    let end = |k: usize| if k + 1 < t.terms.len() { t.starts[k + 1] as usize } else { t.postings.len() };
+    (0..t.terms.len()).map(move |k| &t.postings[t.starts[k] as usize..end(k)])
+}
+
+fn outside(t: &Tables, posting: u32) -> bool {
+    let d = device_of(posting);
+    d == 0 || d > t.last.len()
+}
+
+/// Whether a posting at e is redundant in a list.
+fn redundant(t: &Tables, l: &[u32], e: usize) -> bool {
+    l.iter().any(|&q| q % 2 == 1 && device_of(q) < e && e <= t.last[device_of(q) - 1] as usize)
+}
+
+/// For device tables that were accepted.
+fn check_index(t: &Tables) -> u32 {
+    let refusal = check_starts(t);
+    if refusal != 0 {
+        return refusal;
+    }
+    let misplaced = |l: &[u32], i: usize| outside(t, l[i]) || (0..i).any(|j| device_of(l[j]) >= device_of(l[i]));
+    if lists(t).any(|l| (0..l.len()).any(|i| misplaced(l, i))) {
         return 8;
     }
-    let redundant =
-        |l: &[u32], e: usize| l.iter().any(|&q| q % 2 == 1 && device_of(q) < e && e <= t.last[device_of(q) - 1] as usize);
-    if (0..count).any(|k| list(k).iter().any(|&q| redundant(list(k), device_of(q)))) {
+    if lists(t).any(|l| l.iter().any(|&q| redundant(t, l, device_of(q)))) {
         return 9;
     }
     0
+}
+
+/// The refusals of a repair with so much room in the report, each posting against each.
+pub fn repair_refusal(t: &Tables, room: usize) -> u32 {
+    let of_tables = match check_devices(t) {
+        0 => check_starts(t),
+        refusal => refusal,
+    };
+    let falls = |l: &[u32]| (0..l.len()).any(|i| (0..i).any(|j| device_of(l[j]) > device_of(l[i])));
+    if of_tables != 0 {
+        of_tables
+    } else if t.postings.iter().any(|&q| outside(t, q)) {
+        8
+    } else if lists(t).any(falls) {
+        41
+    } else if room < dropped(t).len() {
+        44
+    } else {
+        0
+    }
+}
+
+/// Whether the posting at index i of a list is dropped: another of its device is kept, or it is redundant.
+fn goes(t: &Tables, l: &[u32], i: usize) -> bool {
+    let same = |j: usize| device_of(l[j]) == device_of(l[i]);
+    let shared = |j: usize| l[j] % 2 == 1;
+    let other = if shared(i) {
+        (0..i).any(|j| same(j) && shared(j))
+    } else {
+        (0..i).any(same) || (0..l.len()).any(|j| same(j) && shared(j))
+    };
+    other || redundant(t, l, device_of(l[i]))
+}
+
+/// What a repair reports: term, device and 0 or 1 of each dropped posting.
+fn dropped(t: &Tables) -> Vec<u32> {
+    let of_list = |(k, l): (usize, &[u32])| -> Vec<[u32; 3]> {
+        let gone = (0..l.len()).filter(|&i| goes(t, l, i));
+        gone.map(|i| [t.terms[k] as u32, l[i] / 2, l[i] % 2]).collect()
+    };
+    lists(t).enumerate().flat_map(of_list).flatten().collect()
+}
+
+/// The postings of each list with those reported of it, sorted.
+fn sorted(t: &Tables, report: &[u32]) -> Vec<Vec<u32>> {
+    let of_list = |(l, &term): (&[u32], &u16)| {
+        let told = report.chunks(3).filter(|told| told[0] == term as u32).map(|told| 2 * told[1] + told[2]);
+        let mut all: Vec<u32> = l.iter().copied().chain(told).collect();
+        all.sort();
+        all
+    };
+    lists(t).zip(&t.terms).map(of_list).collect()
+}
+
+/// What an accepted repair breaks, if anything: `after` has the kept postings alone, and the report the dropped ones.
+pub fn repair_broken(before: &Tables, after: &Tables, report: &[u32]) -> Option<&'static str> {
+    let carried = |t: &Tables| -> Vec<_> { t.terms.iter().map(|&term| carriers(t, term as u32)).collect() };
+    if check(after) != 0 {
+        Some("the outcome is refused")
+    } else if carried(before) != carried(after) {
+        Some("a device carries other terms than before")
+    } else if sorted(before, &[]) != sorted(after, report) {
+        Some("kept and dropped together are not the postings before")
+    } else if check(before) == 0 && before != after {
+        Some("a sound index changed")
+    } else if dropped(before) != report {
+        Some("what is reported is not what goes")
+    } else {
+        None
+    }
 }
 
 /// Whether some device lies in more than 32 branches, each device against each, for device tables that were accepted.

@@ -1,6 +1,7 @@
 //! What is held to the paper: the archive, or the paper with a known mistake in it.
 use crate::case::{lent, Case, Outcome};
-use crate::paper::{Answer, Move, Tables};
+use crate::paper::{device_of, Answer, Move, Tables};
+use crate::repair::chosen;
 use crate::{ffi, Subject};
 
 pub struct Archive;
@@ -22,6 +23,11 @@ impl Subject for Archive {
                 let mut buffer = buffer.clone();
                 let (refusal, length) = ffi::write_plant(t, &mut buffer);
                 Outcome::Written(refusal, length, buffer)
+            }
+            Case::Repair(t, report) => {
+                let (mut t, mut report) = (t.clone(), report.clone());
+                let (refusal, numbers) = ffi::repair(&mut t, &mut report);
+                Outcome::Repaired(refusal, numbers, t, report)
             }
             Case::Query(text) => Outcome::Query(ffi::read_query(text)),
             Case::Respond(plant, query) => {
@@ -126,9 +132,112 @@ impl Subject for Wrong {
                 passed_late(&mut bytes[..length]);
                 Outcome::Bytes(length, bytes)
             }
+            (23.., Case::Repair(t, report), Outcome::Repaired(refusal, numbers, after, told)) => {
+                let (refusal, numbers, after, told) = misrepaired(self.0, t, report, (refusal, numbers, after, told));
+                Outcome::Repaired(refusal, numbers, after, told)
+            }
             (_, _, outcome) => outcome,
         }
     }
+}
+
+/// A repair: the refusal, how many were dropped and how many there are now, the tables and the report.
+type Repaired = (u32, [usize; 2], Tables, Vec<u32>);
+
+/// What is kept, with one of the mistakes 23 to 28.
+fn wrongly_kept(mistake: u64, t: &Tables) -> Option<Vec<bool>> {
+    let kept = match mistake {
+        // the first posting of a device, though a shared one follows
+        23 => t.kept(|_| 0),
+        // the last shared one of a device
+        24 => t.kept(|same| same.iter().rposition(|q| q % 2 == 1).unwrap_or(0)),
+        // the last one of a device, though a shared one stands before it
+        25 => t.kept(|same| same.len() - 1),
+        // what lies in a branch too: as if every device were a leaf
+        26 => Tables { last: (1..=t.size() as u16).collect(), ..t.clone() }.kept(chosen),
+        // only what the lists before do not reach either: as if there were one list
+        27 => Tables { terms: vec![1], starts: vec![0], ..t.clone() }.kept(chosen),
+        // what lies in a branch, after a shorter one inside it
+        28 => kept_by_nearest(t),
+        _ => return None,
+    };
+    Some(kept)
+}
+
+/// What is kept where only the branch of the nearest shared posting before it is looked at.
+fn kept_by_nearest(t: &Tables) -> Vec<bool> {
+    let mut kept = vec![];
+    for k in 0..t.terms.len() {
+        let mut reached = 0;
+        for same in t.list(k).chunk_by(|&a, &b| device_of(a) == device_of(b)) {
+            let at = chosen(same);
+            kept.extend((0..same.len()).map(|i| i == at && device_of(same[i]) > reached));
+            if same[at] % 2 == 1 {
+                reached = t.reach(same[at]);
+            }
+        }
+    }
+    kept
+}
+
+/// A repair with one of the mistakes from 23 on.
+fn misrepaired(mistake: u64, t: &Tables, report: &[u32], mut right: Repaired) -> Repaired {
+    let refused = |number: u32| (number, [0, 0], t.clone(), report.to_vec());
+    let (refusal, [dropped, count], after, told) = &mut right;
+    let end = 3 * *dropped;
+    match (mistake, *refusal) {
+        // the last two are reported the other way round
+        (29, 0) if *dropped > 1 => told[end - 6..end].rotate_left(3),
+        // the old length is given
+        (30, 0) => *count = t.postings.len(),
+        // the entry past the report is set to 0
+        (31, 0) => told.iter_mut().skip(end).take(1).for_each(|entry| *entry = 0),
+        // the last freed entry keeps what it held
+        (32, 0) if *dropped > 0 => *after.postings.last_mut().unwrap() = t.postings[t.postings.len() - 1],
+        // the lists start where they did
+        (33, 0) => after.starts.clone_from(&t.starts),
+        // a report that is just long enough is refused
+        (34, 0) if report.len() == end => return refused(44),
+        // a report that is one entry short is taken
+        (35, 44) => return cut_short(t, report),
+        // equal devices are refused
+        (36, 0 | 44) if any_equal(t) => return refused(41),
+        // 41 comes before 8
+        (37, 8) if t.falls() => return refused(41),
+        // 44 comes before 41
+        (38, 41) if report.is_empty() => return refused(44),
+        // what there is room for is reported before the report is found too short
+        (39, 44) => told.copy_from_slice(&repaired(t, &vec![0; 3 * t.postings.len()]).3[..report.len()]),
+        (_, 0) => return wrongly_kept(mistake, t).map_or(right, |kept| keeping(t, report, &kept)),
+        _ => (),
+    }
+    right
+}
+
+/// Whether a device stands twice in a list.
+fn any_equal(t: &Tables) -> bool {
+    let equal = |list: &[u32]| list.windows(2).any(|w| device_of(w[0]) == device_of(w[1]));
+    (0..t.terms.len()).any(|k| equal(t.list(k)))
+}
+
+/// The repair with one more entry in the report, which is not handed out.
+fn cut_short(t: &Tables, report: &[u32]) -> Repaired {
+    let mut right = repaired(t, &[report, &[0]].concat());
+    right.3.pop();
+    right
+}
+
+fn repaired(t: &Tables, report: &[u32]) -> Repaired {
+    let (mut t, mut report) = (t.clone(), report.to_vec());
+    let (refusal, numbers) = t.repair(&mut report);
+    (refusal, numbers, t, report)
+}
+
+/// The repair that keeps these postings.
+fn keeping(t: &Tables, report: &[u32], kept: &[bool]) -> Repaired {
+    let (mut t, mut report) = (t.clone(), report.to_vec());
+    let (refusal, numbers) = t.keep(kept, &mut report);
+    (refusal, numbers, t, report)
 }
 
 /// The outcome of a search, where an accepted one counts passed in this way.
