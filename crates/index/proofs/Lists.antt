@@ -1,10 +1,10 @@
 -- Tables whose keys rise, and lists of postings with none redundant.
-use Prim.Native.Nat.{ℕ, zero, suc, _+_, _-_, _%_, _≤_, _<_}
+use Prim.Native.Nat.{ℕ, zero, suc, _+_, _-_, _≤_, _<_}
 use mathlib.Core.Path.{_≡_, refl, sym, _∙_}
-use mathlib.Core.Bool.{Bool, true, false, _&&_}
+use mathlib.Core.Bool.{Bool, true, false, cond, _&&_}
 use mathlib.Core.List.{List}
 use native.Mathlib.Omega.{arith}
-use borrow.Author.Tests.{lt-leb, eq-eqb, ne-eqb}
+use borrow.Author.Tests.{lt-leb}
 use lib.Dec.{leb}
 use lib.ListN.{length, getD}
 use Rattle.laws.specs.Search.{any}
@@ -101,12 +101,9 @@ module _ (last l : List ℕ) (n : ℕ) (sound : any (length l) (misplaced n devi
         (λ w. let z : i ≡ k = omega arith in rw z (simp tests (λ q. t (q .0))))))),
   ))
 
--- the reach of a shared posting and of a private one
-pub reach-shared : (last : List ℕ) (q d : ℕ) → q % 2 ≡ 1 → d ≡ device q → entry last d ≡ reach last q
-reach-shared last q d p e = rw (eq-eqb (q % 2) 1 p, e)
-
-pub reach-private : (last : List ℕ) (q : ℕ) → (q % 2 ≡ 1 → ⊥) → device q ≡ reach last q
-reach-private last q p = rw (ne-eqb (q % 2) 1 p)
+-- the reach of a posting, by where the branch of its device ends
+pub reach-at : (last : List ℕ) (q : ℕ) {d end r : ℕ} → d ≡ device q → end ≡ getD last (d - 1) 0 → r ≡ cond (shared q) end (device q) → r ≡ reach last q
+reach-at last q e f g = g ∙ rw (f, e)
 
 -- a later device lies in the branch of a shared posting exactly where it is within the posting's reach
 pub reaches : (last : List ℕ) (q e : ℕ) → device q < e → (shared q && leb e (entry last (device q))) ≡ leb e (reach last q)

@@ -11,7 +11,7 @@ pub use list::clear;
 pub use list::list_at;
 pub use list::list_of;
 pub use list::start_at;
-pub use postings::reach_of;
+pub use postings::reach_by;
 pub use refusals::check;
 pub use refusals::outline_row;
 pub use refusals::outside_in;

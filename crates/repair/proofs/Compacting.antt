@@ -10,6 +10,7 @@ use lib.ListN.{length, getD, take, drop, set, length-append, length-set}
 use lib.Seq.{slice, length-slice, length-take-le, take-all, take-take, take-length, take-append-add, getD-take, getD-drop, getD-append-add, drop-drop, take-suc-set, drop-set-lt}
 use borrow.Author.Tests.{ltb-true, ltb-false}
 use Rattle.laws.specs.Tables.{entry}
+use Rattle.laws.specs.inner.Entries.{IsEntry}
 use Rattle.laws.specs.Joined.{joined}
 use Rattle.laws.proofs.Tests.{flags}
 use Rattle.laws.proofs.Cases.{by-order, either}
@@ -186,6 +187,13 @@ module _ {last p₀ r₀ : List ℕ} {base end term to at : ℕ} {p r : List ℕ
 
     first-device : 1 ≤ device q
     first-device = rw here (passed-device (c .held) (c .passed) inside F)
+
+    pub course-device : IsEntry last (device q)
+    course-device =
+        let m = length-take-le (i - base + 1) l (omega (arith, inside)) in
+        let n = inside in
+        let e : i - base + 1 - 1 ≡ i - base = omega arith in
+        record { first = first-device; last = rw here (rw e at (c .fit .last (i - base + 1) (omega arith) (omega arith))) }
 
     reaches : ltb reached (device q) ≡ false → device q ≤ reached
     reaches e = ltb-false reached (device q) e

@@ -1,6 +1,5 @@
 // Moves what is kept of the lists down to the front of the postings, and reports what is dropped.
-use crate::count::larger;
-use index::reach_of;
+use crate::count::further;
 use index::start_at;
 use integers::u16_to_u32;
 use integers::u32_to_usize;
@@ -100,7 +99,7 @@ fn compact_list(
         let posting = postings[i];
         let fresh = reached < u32_to_usize(posting / 2);
         filled = put(postings, report, filled, fresh, term, posting);
-        reached = larger(reached, reach_of(last, posting));
+        reached = further(last, reached, posting);
         i += 1;
     }
     filled

@@ -1,11 +1,14 @@
 // How many postings a repair keeps. Of a device the first posting that none before it reaches stays, or one in its place; no other does.
 use index::list_at;
-use index::reach_of;
+use index::reach_by;
+use integers::u16_to_usize;
 use integers::u32_to_usize;
 ghost use mathlib.Core.Path.{_≡_};
 ghost use mathlib.Core.Bool.{_||_, cond};
 ghost use Prim.Native.Nat.{_≤_, max};
 ghost use lib.Dec.{ltb};
+ghost use Rattle.laws.specs.inner.Entries.{IsEntry};
+ghost use Rattle.index.specs.Postings.{device, reach};
 ghost use Rattle.index.specs.Index.{index};
 ghost use Rattle.index.specs.inner.Lists.{Held};
 ghost use Rattle.index.specs.inner.Outlined.{Outlined};
@@ -17,10 +20,20 @@ pub struct Counted {
     pub kept: usize,
 }
 
-pub fn larger(a: usize, b: usize) -> usize
+fn larger(a: usize, b: usize) -> usize
     ensures { λ r. ⌜ r ≡ max a b ⌝ }
 {
     if a < b { b } else { a }
+}
+
+// How far postings reach that have reached so far, with one more.
+pub fn further(last: &[u16], reached: usize, posting: u32) -> usize
+    requires { ⌜ IsEntry (now last) (device posting) ⌝ }
+    ensures { λ r. ⌜ r ≡ max reached (reach (now (last .entry)) posting) ⌝ }
+{
+    let d = u32_to_usize(posting / 2);
+    let end = u16_to_usize(last[d - 1]);
+    larger(reached, reach_by(end, posting))
 }
 
 // 1 for a device beyond what was reached, else 0.
@@ -49,7 +62,7 @@ fn counted_in(last: &[u16], list: &[u32]) -> Counted
             };
         }
         kept += one_beyond(reached, device);
-        reached = larger(reached, reach_of(last, posting));
+        reached = further(last, reached, posting);
         before = device;
         k += 1;
     }

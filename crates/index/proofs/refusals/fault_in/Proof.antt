@@ -25,6 +25,9 @@ beyond : (c : tie.Else1 Inv-loop μ-loop) → let d = c .before .before in (d .b
 beyond c =
     clear-beyond (c .before .before .before .before .before .loop .inv) (c .before .before .before .before .before .before .before .before .args .checked) (c .before .before .before .before .before .before .before .before .pre) (sym (c .before .at-fault .ensures) ∙ c .if1 .left)
 
+reach-of-requires : tie.Need-reach-of-requires Inv-loop μ-loop
+reach-of-requires c κs = let b = beyond c in record { first = omega arith; last = omega arith }
+
 loop-again : tie.Need-loop-again Inv-loop μ-loop
 loop-again c =
     let b = beyond (c .before) in
@@ -40,7 +43,7 @@ fault-in-spec =
     (λ c κs. search needs)
     (λ c κs. search needs)
     returns
-    (λ c κs. search needs)
+    reach-of-requires
     (λ c. search needs)
     (λ c. search needs)
     loop-again

@@ -1,9 +1,8 @@
 -- `repair::compact::compact_list` meets its contract: the postings up to i are kept or reported.
-use Prim.Native.Nat.{_-_, max}
-use mathlib.Core.Path.{ap, _∙_}
+use Prim.Native.Nat.{_-_}
 use borrow.Author.Needs.{needs}
 use native.Mathlib.Omega.{arith}
-use Rattle.repair.proofs.Compacting.{Course, course-start, course-within, course-place, course-held, course-room, course-turn, course-end}
+use Rattle.repair.proofs.Compacting.{Course, course-start, course-within, course-place, course-held, course-room, course-device, course-turn, course-end}
 use Rattle.repair.proofs.compact.compact_list.Statement.{statement}
 use Rattle.repair.proofs.compact.compact_list.Tie as tie
 
@@ -24,12 +23,15 @@ put-requires c κs =
     let h = t .loop .inv in
     (course-place h (omega arith), ((λ z. course-held h (omega arith) (rw e at z)), λ z. course-room h (omega arith) (rw e at z)))
 
+further-requires : tie.Need-further-requires Inv-loop μ-loop
+further-requires c κs = course-device (c .before .before .before .before .before .before .before .before .before .before .loop .inv) (omega arith)
+
 loop-again : tie.Need-loop-again Inv-loop μ-loop
 loop-again c =
-    let p = c .before .before .before .before .before .before in
+    let p = c .before .before .before .before .before in
     let t = p .before .before .before .before .before .before in
     let e = p .before .before .before .u32-to-usize .ensures in
-    course-turn (t .loop .inv) (omega arith) (rw e at (p .put .ensures)) (c .larger .ensures ∙ ap (max (t .loop .reached)) (c .before .reach-of .ensures))
+    course-turn (t .loop .inv) (omega arith) (rw e at (p .put .ensures)) (c .further .ensures)
 
 pub compact-list-spec : {M : Type 1} → statement M
 compact-list-spec =
@@ -42,8 +44,7 @@ compact-list-spec =
     (λ c. course-within (c .before .before .loop .inv) (omega arith))
     (λ c κs. search needs)
     put-requires
-    (λ c κs. search needs)
-    (λ c κs. search needs)
+    further-requires
     (λ c. search needs)
     (λ c. search needs)
     loop-again

@@ -1,6 +1,5 @@
 -- `repair::count::counted_in` meets its contract: of the postings so far none is astray, and those kept are counted.
-use Prim.Native.Nat.{_-_, max}
-use mathlib.Core.Path.{ap, _∙_}
+use Prim.Native.Nat.{_-_}
 use borrow.Author.Needs.{needs}
 use native.Mathlib.Omega.{arith}
 use lib.ListN.{length}
@@ -27,11 +26,17 @@ add-kept c =
     let h = c .before .before .before .before .before .before .loop .inv .few in
     search (needs, h)
 
+further-requires : tie.Need-further-requires Inv-loop μ-loop
+further-requires c κs =
+    let t = c .before .before .before .before .before .before in
+    let e = c .before .before .before .u32-to-usize .ensures in
+    record { first = omega (flags, t .loop .inv .low); last = omega flags }
+
 loop-again : tie.Need-loop-again Inv-loop μ-loop
 loop-again c =
-    let t = c .before .before .before .before .before .before .before .before in
-    count-turn (t .loop .inv) (omega arith) (c .before .before .before .before .before .u32-to-usize .ensures) (omega flags) (omega flags)
-    (t .before .before .before .pre) (c .before .before .one-beyond .ensures) (c .larger .ensures ∙ ap (max (t .loop .reached)) (c .before .reach-of .ensures))
+    let t = c .before .before .before .before .before .before .before in
+    count-turn (t .loop .inv) (omega arith) (c .before .before .before .before .u32-to-usize .ensures) (omega flags) (omega flags)
+    (t .before .before .before .pre) (c .before .one-beyond .ensures) (c .further .ensures)
 
 pub counted-in-spec : {M : Type 1} → statement M
 counted-in-spec =
@@ -46,8 +51,7 @@ counted-in-spec =
     returns
     (λ c κs. search needs)
     add-kept
-    (λ c κs. search needs)
-    (λ c κs. search needs)
+    further-requires
     (λ c. search needs)
     (λ c. search needs)
     loop-again
