@@ -270,11 +270,11 @@ module _ {last p₀ r₀ : List ℕ} {base end term to at : ℕ} {p r : List ℕ
           record {
             size = length-set p (f .postings - 1) _ ∙ c .done .size;
             place-is = rw (next-number, nx .0) (
-              let a = length-append (take (length ks - 1) ks) (stays (entry ks (length ks)) q ∷ []) in
-              let b = length-take-le (length ks - 1) ks (omega (arith, some-kept e)) in
-              let h = c .done .place-is in
-              let m = some-kept e in
-              omega arith);
+                let a = length-append (take (length ks - 1) ks) (stays (entry ks (length ks)) q ∷ []) in
+                let b = length-take-le (length ks - 1) ks (omega (arith, some-kept e)) in
+                let h = c .done .place-is in
+                let m = some-kept e in
+                omega arith);
             front = take-written p (f .postings - 1) (f .postings) _ (sym z) (omega (arith, course-place))
                 ∙ rw (before-held e, next-number, nx .0) (append-assoc (take to p₀) (take (length ks - 1) ks) (stays (entry ks (length ks)) q ∷ []));
             rest = drop-set-lt (i + 1) p (f .postings - 1) _ (omega (arith, place-low)) ∙ later p p₀ i (i + 1) (c .done .rest) (omega arith);

@@ -11,3 +11,4 @@ mod Lists
 mod Theorems
 mod Rows
 mod Outcomes
+pub mod Example

@@ -336,8 +336,11 @@ module _ (last : List ℕ) (H : Held last) (l : List ℕ) (q : ℕ) (F : Fit (le
         let e : picked (keeps last (more l q)) (more l q) (length l) ≡ front =
         ap (picked (keeps last (more l q)) (more l q)) size-is
         ∙ joined-split (λ k. cond (keeps last (more l q) k) (entry (more l q) k ∷ []) []) (f - 1) (suc r)
-        ∙ rw (joined-empty (λ i. cond (keeps last (more l q) (f - 1 + i)) (entry (more l q) (f - 1 + i) ∷ []) []) (suc r)
-        (λ i a b. let g = at-least i a b in rw (go-after (f - 1 + i) (g .0) (g .1))), append-nil)
+        ∙ rw (
+          joined-empty (λ i. cond (keeps last (more l q) (f - 1 + i)) (entry (more l q) (f - 1 + i) ∷ []) []) (suc r)
+              (λ i a b. let g = at-least i a b in rw (go-after (f - 1 + i) (g .0) (g .1))),
+          append-nil,
+        )
         (joined-same _ _ (f - 1) (λ k a b. rw (same-before k a b, old k a (omega (arith, L .last))))) in
         picked-end (keeps last (more l q)) ∙ rw (e, keeps-new now apart)
 
@@ -354,10 +357,12 @@ module _ (last : List ℕ) (H : Held last) (l : List ℕ) (q : ℕ) (F : Fit (le
         ∙ joined-split (λ k. cond (drops last l k) (entry l k ∷ []) []) (f - 1) (suc r)
         ∙ ap (λ (t : List ℕ). left-out ++ t)
         (ap (joined part) (sym one-more) ∙ joined-split part 1 r
-        ∙ rw (joined-empty part 1 (λ i a b. let z : f - 1 + i ≡ f = omega arith in rw (z, stay-before)),
-        joined-each (λ i. part (1 + i)) (device q * 2) r (λ i a b.
-        let g = at-least (1 + i) (omega arith) (omega arith) in
-        rw (go-before (f - 1 + (1 + i)) (omega arith) (g .1), twice (f - 1 + (1 + i)) (g .0) (g .1)))))
+        ∙ rw (
+          joined-empty part 1 (λ i a b. let z : f - 1 + i ≡ f = omega arith in rw (z, stay-before)),
+          joined-each (λ i. part (1 + i)) (device q * 2) r (λ i a b.
+              let g = at-least (1 + i) (omega arith) (omega arith) in
+              rw (go-before (f - 1 + (1 + i)) (omega arith) (g .1), twice (f - 1 + (1 + i)) (g .0) (g .1))),
+        ))
 
     dropped-after : dropped last (more l q) ≡ dropped last l ++ (device q * 2 ∷ [])
     dropped-after =
@@ -366,11 +371,13 @@ module _ (last : List ℕ) (H : Held last) (l : List ℕ) (q : ℕ) (F : Fit (le
         let e : picked (drops last (more l q)) (more l q) (length l) ≡ left-out ++ replicate (suc r) (device q * 2) =
         ap (picked (drops last (more l q)) (more l q)) size-is
         ∙ joined-split (λ k. cond (drops last (more l q) k) (entry (more l q) k ∷ []) []) (f - 1) (suc r)
-        ∙ rw (joined-each part (device q * 2) (suc r) (λ i a b.
-        let g = at-least i a b in
-        rw (go-after (f - 1 + i) (g .0) (g .1), old (f - 1 + i) (omega arith) (g .1), twice (f - 1 + i) (g .0) (g .1))),
-        joined-same (λ k. cond (drops last (more l q) k) (entry (more l q) k ∷ []) []) (λ k. cond (drops last l k) (entry l k ∷ []) []) (f - 1)
-        (λ k a b. rw (same-before k a b, old k a (omega (arith, L .last))))) in
+        ∙ rw (
+          joined-each part (device q * 2) (suc r) (λ i a b.
+              let g = at-least i a b in
+              rw (go-after (f - 1 + i) (g .0) (g .1), old (f - 1 + i) (omega arith) (g .1), twice (f - 1 + i) (g .0) (g .1))),
+          joined-same (λ k. cond (drops last (more l q) k) (entry (more l q) k ∷ []) []) (λ k. cond (drops last l k) (entry l k ∷ []) []) (f - 1)
+              (λ k a b. rw (same-before k a b, old k a (omega (arith, L .last)))),
+        ) in
         let z : r + 1 ≡ suc r = omega arith in
         picked-end (drops last (more l q))
         ∙ rw (e, keeps-new now apart, append-nil, dropped-before, append-assoc left-out (replicate r (device q * 2)) (device q * 2 ∷ []))
@@ -389,13 +396,14 @@ module _ (last : List ℕ) (H : Held last) (l : List ℕ) (q : ℕ) (F : Fit (le
   unfolding Lone
   lone k a b p e s =
       let h = and-yes (eqb k (choice l (device (entry l k)))) (not (redundant last l k)) .0 p in
-      let c : k ≡ choice l (device q) = eqb-true _ _ (h .0) ∙ ap (choice l) e in
-      (rw e at (not-yes (redundant last l k) .0 (h .1)),
-      refuted _ (λ t.
-      let L = lowest-of (λ k. both (device q) (entry l k)) (length l) t in
-      let z : k ≡ lowest (length l) (λ k. both (device q) (entry l k)) = rw t at c in
-      let y : both (device q) (entry l k) ≡ true = rw z (L .passes) in
-      true≢false (sym (and-yes (at (device q) (entry l k)) (shared (entry l k)) .0 y .1) ∙ s)))
+      let c : k ≡ choice l (device q) = eqb-true _ _ (h .0) ∙ ap (choice l) e in (
+        rw e at (not-yes (redundant last l k) .0 (h .1)),
+        refuted _ (λ t.
+            let L = lowest-of (λ k. both (device q) (entry l k)) (length l) t in
+            let z : k ≡ lowest (length l) (λ k. both (device q) (entry l k)) = rw t at c in
+            let y : both (device q) (entry l k) ≡ true = rw z (L .passes) in
+            true≢false (sym (and-yes (at (device q) (entry l k)) (shared (entry l k)) .0 y .1) ∙ s)),
+      )
 
   held-lone : 1 ≤ length (kept last l) → held ≡ device q * 2 → (shadowed last l (device q) ≡ false) × (some (both (device q)) l ≡ false)
   unfolding Lone

@@ -24,13 +24,21 @@ pub struct Filled {
 fn staying(held: u32, posting: u32) -> u32
     ensures { λ r. ⌜ r ≡ stays held posting ⌝ }
 {
-    if held == posting / 2 * 2 { posting } else { held }
+    if held == posting / 2 * 2 {
+        posting
+    } else {
+        held
+    }
 }
 
 fn going(held: u32, posting: u32) -> u32
     ensures { λ r. ⌜ r ≡ goes held posting ⌝ }
 {
-    if held == posting / 2 * 2 { held } else { posting }
+    if held == posting / 2 * 2 {
+        held
+    } else {
+        posting
+    }
 }
 
 // The three entries of a posting in the report.
