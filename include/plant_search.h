@@ -90,6 +90,28 @@ uint32_t plant_search_write_plant(
     uint8_t *text, size_t text_length,
     size_t numbers[1]);
 
+/* Repairs lists that have several postings for a device, or redundant ones: the first of refusals 1 to 7, 8, 41 and 44 that
+ * applies, or 0. The tables are checked in each call.
+ *
+ * Of each device in a list one posting stays: the first for the whole branch, else the first. What lies in the branch of another
+ * posting of the list goes too. Every device carries the terms that it carried, and plant_search_check accepts the outcome.
+ * starts, postings: repaired in their own room; entries that come free at the end of postings are set to 0. The postings are
+ * those up to the new number: hand that over as their length from then on.
+ * report: three entries for each posting that was dropped, in the order in which they stood: the term, the device, and 1 for
+ * the whole branch or 0. Entries past them keep what they hold. Three times as many entries as postings are always enough.
+ * numbers: how many postings were dropped, and the new number of postings.
+ * 8: a posting's device is 0 or above N. 41: a device is below the one before it in its list. 44: the report is too short. After
+ * a refusal starts, postings and report are as they were, and both numbers are 0. */
+uint32_t plant_search_repair(
+    const uint16_t *last, size_t last_length,
+    const uint16_t *root, size_t root_length,
+    const uint8_t *level, size_t level_length,
+    const uint16_t *terms, size_t terms_length,
+    uint32_t *starts, size_t starts_length,
+    uint32_t *postings, size_t postings_length,
+    uint32_t *report, size_t report_length,
+    size_t numbers[2]);
+
 /* Reads ask text: the refusal, 30 to 35, or 0.
  *
  * required, forbidden: the terms, then zeros.

@@ -1,10 +1,10 @@
 -- What an accepted index is, and what it says of each of its lists.
 use Prim.Native.Nat.{ℕ, zero, suc, _+_, _-_, _≤_, _<_}
 use mathlib.Core.Path.{_≡_, sym}
-use mathlib.Core.Bool.{false, _||_}
+use mathlib.Core.Bool.{false}
 use mathlib.Core.List.{List, [], _∷_}
 use native.Mathlib.Omega.{arith}
-use lib.ListN.{length, getD, List·getD-eq-default}
+use lib.ListN.{length, getD}
 use Rattle.laws.specs.Search.{any, lowest}
 use Rattle.laws.specs.Tables.{entry}
 use Rattle.plant.specs.Plant.{Plant, size, plant-refusal}
@@ -14,12 +14,11 @@ use Rattle.index.specs.Forward.{Sorted}
 use Rattle.plant.proofs.Forest as forests
 use Rattle.index.specs.inner.Lists.{SoundList, Held}
 use Rattle.index.specs.inner.Outlined.{Outlined}
-use Rattle.index.specs.Index.{Index, count, list, is-term, list-of, misplaced-term, wrong-start, stray, misplaced-in, redundant-in, unfit, index-rows, tables-refusal, most-terms, most-postings}
-use Rattle.laws.proofs.Tests.{tests, or-no}
-use Rattle.laws.proofs.Cases.{by-order, split-cond}
+use Rattle.index.specs.Index.{Index, count, list, is-term, list-of, misplaced-term, wrong-start, stray, misplaced-in, redundant-in, index-rows, tables-refusal, most-terms, most-postings}
+use Rattle.laws.proofs.Cases.{split-cond}
 use Rattle.laws.proofs.Rows.{otherwise-none, pick-none}
 use Rattle.laws.proofs.Search.{none-yet, none-any, any-none, lowest-of}
-use Rattle.index.proofs.Lists.{here, previous, ranged, rises, not-falling}
+use Rattle.index.proofs.Lists.{here, ranged, rises, not-falling}
 use Rattle.index.proofs.Outline.{outlined, outline-passed}
 use Rattle.index.proofs.Starts.{start-bounds}
 
@@ -64,7 +63,7 @@ accepted P I h =
     }
 
 -- its lists lie one after another
-pub outline-of : {P : Plant} {I : Index} → Accepted P I → Outlined I
+outline-of : {P : Plant} {I : Index} → Accepted P I → Outlined I
 outline-of a =
     record {
       even = a .even;

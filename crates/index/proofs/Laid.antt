@@ -1,6 +1,6 @@
 -- An index made of lists has these lists, and they lie one after another.
 use Prim.Native.Nat.{ℕ, _+_, _-_, _≤_, _<_}
-use mathlib.Core.Path.{_≡_, sym, ap, _∙_}
+use mathlib.Core.Path.{_≡_, sym, _∙_}
 use mathlib.Core.Bool.{false}
 use mathlib.Core.List.{List, [], _∷_}
 use native.Mathlib.Omega.{arith}
@@ -8,7 +8,7 @@ use lib.ListN.{length, getD, List·getD-eq-default}
 use Rattle.laws.specs.Joined.{joined}
 use Rattle.laws.specs.Search.{any, lowest}
 use Rattle.laws.specs.Tables.{entry}
-use Rattle.index.specs.Index.{Index, count, list, is-term, list-of, misplaced-term, wrong-start, stray, most-terms, most-postings}
+use Rattle.index.specs.Index.{Index, count, list, is-term, list-of, misplaced-term, wrong-start, most-terms, most-postings}
 use Rattle.index.specs.Laid.{laid}
 use Rattle.index.specs.inner.Outlined.{Outlined}
 use Rattle.laws.proofs.Tests.{tests}

@@ -1,16 +1,16 @@
 -- Laws of lists put together from numbered parts, of tables made by their numbers, and of entries picked by a test.
 use Prim.Native.Nat.{ℕ, zero, suc, _+_, _-_, _≤_, _<_}
-use mathlib.Core.Path.{_≡_, refl, sym, ap, _∙_}
-use mathlib.Core.Bool.{Bool, true, false, cond, not, _||_, _&&_, or-assoc, or-false}
+use mathlib.Core.Path.{_≡_, refl, sym, _∙_}
+use mathlib.Core.Bool.{Bool, true, false, cond, _||_, _&&_, or-assoc, or-false}
 use mathlib.Core.List.{List, [], _∷_, _++_, append-nil, append-assoc}
 use native.Mathlib.Omega.{arith}
 use native.Mathlib.Numerals.{add-one}
-use lib.ListN.{length, getD, take, length-append, List·getD-append}
-use lib.Seq.{slice, take-suc, getD-at, getD-append-add, getD-append-seam, take-append-seam, drop-append-seam}
+use lib.ListN.{length, getD, length-append, List·getD-append}
+use lib.Seq.{slice, getD-at, getD-append-add, take-append-seam, drop-append-seam}
 use Rattle.laws.specs.Search.{any}
 use Rattle.laws.specs.Tables.{entry}
 use Rattle.laws.specs.Joined.{joined, tabled, picked}
-use Rattle.laws.proofs.Cases.{by-order, either, split-cond}
+use Rattle.laws.proofs.Cases.{by-order, split-cond}
 
 -- ---- searches over numbers in two parts, and by tests that agree
 
@@ -132,11 +132,11 @@ some-cond f true q = refl
 some-cond f false q = refl
 
 module _ (f : ℕ → Bool) (l : List ℕ) where
-  pub picked-more : (n : ℕ) → f (suc n) ≡ true → picked f l (suc n) ≡ picked f l n ++ (entry l (suc n) ∷ [])
+  picked-more : (n : ℕ) → f (suc n) ≡ true → picked f l (suc n) ≡ picked f l n ++ (entry l (suc n) ∷ [])
   unfolding joined
   picked-more n p = rw p
 
-  pub picked-less : (n : ℕ) → f (suc n) ≡ false → picked f l (suc n) ≡ picked f l n
+  picked-less : (n : ℕ) → f (suc n) ≡ false → picked f l (suc n) ≡ picked f l n
   unfolding joined
   picked-less n p = rw (p, append-nil)
 
@@ -144,14 +144,7 @@ module _ (f : ℕ → Bool) (l : List ℕ) where
   pub some-picked : (g : ℕ → Bool) (n : ℕ) → some g (picked f l n) ≡ any n (λ k. f k && g (entry l k))
   some-picked g n = some-joined (λ k. cond (f k) (entry l k ∷ []) []) g n ∙ any-same _ _ n (λ k a b. some-cond g (f k) (entry l k))
 
-  -- all entries pass, and none does
-  pub picked-all : (n : ℕ) → n ≤ length l → ((k : ℕ) → 1 ≤ k → k ≤ n → f k ≡ true) → picked f l n ≡ take n l
-  unfolding joined
-  picked-all zero u h = refl
-  picked-all (suc n) u h =
-      let e : suc n - 1 ≡ n = omega arith in
-      rw (picked-more n (h (suc n) (omega arith) (omega arith)), picked-all n (omega arith) (λ k a b. h k a (omega arith)), take-suc l n 0, e)
-
+  -- none passes
   pub picked-none : (n : ℕ) → ((k : ℕ) → 1 ≤ k → k ≤ n → f k ≡ false) → picked f l n ≡ []
   unfolding joined
   picked-none zero h = refl

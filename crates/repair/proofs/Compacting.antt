@@ -1,28 +1,27 @@
 -- Compacting a list: what is kept goes down, and what is dropped is reported.
 use Prim.Native.Nat.{ℕ, zero, suc, _+_, _*_, _-_, _%_, _≤_, _<_, max}
 use mathlib.Core.Path.{_≡_, refl, sym, ap, _∙_}
-use mathlib.Core.Bool.{Bool, true, false, cond}
+use mathlib.Core.Bool.{true, false}
 use mathlib.Core.List.{List, [], _∷_, _++_, append-assoc, append-nil}
 use native.Mathlib.Omega.{arith}
 use native.Mathlib.Numerals.{add-one}
 use lib.Dec.{ltb}
 use lib.ListN.{length, getD, take, drop, set, length-append, length-set}
-use lib.Seq.{slice, length-slice, length-take-le, take-all, take-take, take-length, take-append-add, getD-take, getD-drop, getD-append-add, drop-drop, take-suc-set, drop-set-lt}
+use lib.Seq.{slice, length-slice, length-take-le, take-take, take-length, take-append-add, getD-take, getD-drop, getD-append-add, drop-drop, take-suc-set, drop-set-lt}
 use borrow.Author.Tests.{ltb-true, ltb-false}
 use Rattle.laws.specs.Tables.{entry}
 use Rattle.laws.specs.inner.Entries.{IsEntry}
 use Rattle.laws.specs.Joined.{joined}
-use Rattle.laws.proofs.Tests.{flags}
 use Rattle.laws.proofs.Cases.{by-order, either}
 use Rattle.laws.proofs.Lists.{getD-slice}
 use Rattle.index.specs.Postings.{device, reach}
 use Rattle.index.specs.inner.Lists.{Held}
-use Rattle.repair.specs.Kept.{keeps, kept, dropped}
+use Rattle.repair.specs.Kept.{kept, dropped}
 use Rattle.repair.specs.Repair.{reported}
-use Rattle.repair.specs.inner.Lists.{Fit, furthest}
+use Rattle.repair.specs.inner.Lists.{Fit}
 use Rattle.repair.specs.inner.Compaction.{stays, goes, told, Put, Compacting}
 use Rattle.repair.specs.declared.compact.Filled.{Filled}
-use Rattle.repair.proofs.Interleaving.{interleaved-length, picked-interleaved}
+use Rattle.repair.proofs.Interleaving.{interleaved-length, kept-interleaved}
 use Rattle.repair.proofs.Passing.{Passed, fit-take, passed-start, passed-turn, passed-fresh, passed-covered, passed-device}
 
 -- ---- lists
@@ -76,8 +75,8 @@ length-told r at t q = simp length-set
 -- ---- parts of a list
 
 -- what is kept and dropped are all postings
-pub kept-and-dropped : (last l : List ℕ) → length (kept last l) + length (dropped last l) ≡ length l
-kept-and-dropped last l = interleaved-length (rw (take-length l) at (picked-interleaved (keeps last l) l (length l) (omega arith)))
+kept-and-dropped : (last l : List ℕ) → length (kept last l) + length (dropped last l) ≡ length l
+kept-and-dropped last l = interleaved-length (kept-interleaved last l)
 
 -- a longer part has no fewer that are dropped
 module _ (last l : List ℕ) (H : Held last) (F : Fit (length last) l) where
@@ -97,7 +96,7 @@ module _ (last l : List ℕ) (H : Held last) (F : Fit (length last) l) where
       (λ v. rw (passed-fresh H (p .1) u G v .1) (omega arith))
       (λ v. let d = passed-device H (p .1) u G in rw (passed-covered H (p .1) u G d v .1) (simp length-append (omega arith)))
 
-  pub dropped-longer : (k m : ℕ) → k + m ≤ length l → length (dropped last (take k l)) ≤ length (dropped last (take (k + m) l))
+  dropped-longer : (k m : ℕ) → k + m ≤ length l → length (dropped last (take k l)) ≤ length (dropped last (take (k + m) l))
   dropped-longer k zero u = let e : k + 0 ≡ k = omega arith in rw e (omega arith)
   dropped-longer k (suc m) u =
       let e : k + suc m ≡ k + m + 1 = omega arith in

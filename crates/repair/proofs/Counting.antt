@@ -1,19 +1,18 @@
 -- Counting what is kept: of a list, and of all lists.
-use Prim.Native.Nat.{ℕ, zero, suc, _+_, _-_, _≤_, _<_, max}
+use Prim.Native.Nat.{ℕ, _+_, _≤_, _<_, max}
 use mathlib.Core.Path.{_≡_, refl, sym, ap, _∙_}
-use mathlib.Core.Bool.{Bool, true, false, cond, not, _||_, true≢false}
+use mathlib.Core.Bool.{true, false, cond, true≢false}
 use mathlib.Core.List.{List, []}
 use native.Mathlib.Omega.{arith}
 use lib.Dec.{ltb}
 use lib.ListN.{length, getD, take, length-append}
-use lib.Seq.{take-all, take-length, length-take-le}
+use lib.Seq.{take-all, length-take-le}
 use Rattle.laws.specs.Joined.{joined}
-use Rattle.laws.specs.Search.{any}
 use Rattle.laws.specs.Tables.{entry}
-use Rattle.laws.proofs.Tests.{tests, flags, or-yes, or-no}
-use Rattle.laws.proofs.Cases.{by-order, either}
+use Rattle.laws.proofs.Tests.{tests, or-yes, or-no}
+use Rattle.laws.proofs.Cases.{by-order}
 use Rattle.laws.proofs.Search.{None, none-yet, none-up, any-found, any-none}
-use Rattle.laws.proofs.Joined.{joined-none, joined-next}
+use Rattle.laws.proofs.Joined.{joined-next}
 use Rattle.plant.specs.Plant.{plant}
 use Rattle.index.specs.Postings.{device, reach, outside}
 use Rattle.index.specs.Index.{Index, count, list}
@@ -21,14 +20,12 @@ use Rattle.index.specs.inner.Lists.{Held}
 use Rattle.index.specs.inner.Outlined.{Outlined}
 use Rattle.index.proofs.Lists.{here, previous}
 use Rattle.index.proofs.Begins.{begin, begin-within, first-lists}
-use Rattle.repair.specs.Kept.{keeps, kept, dropped}
+use Rattle.repair.specs.Kept.{kept}
 use Rattle.repair.specs.Repair.{kept-in, dropped-in}
-use Rattle.repair.specs.Refusals.{falls}
-use Rattle.repair.specs.inner.Lists.{astray, astray-in, Fit, furthest}
+use Rattle.repair.specs.inner.Lists.{astray, astray-in}
 use Rattle.repair.specs.inner.Counting.{kept-of, CountedIn, CountedOf}
 use Rattle.repair.specs.declared.count.Counted.{Counted}
-use Rattle.repair.specs.Promises.{Interleaved}
-use Rattle.repair.proofs.Interleaving.{interleaved-length, picked-interleaved, joined-interleaved}
+use Rattle.repair.proofs.Interleaving.{interleaved-length, joined-interleaved, kept-interleaved}
 use Rattle.repair.proofs.Passing.{Passed, fit-front, passed-start, passed-count, passed-turn}
 
 -- ---- one list
@@ -117,8 +114,7 @@ module _ {last l : List ℕ} {before reached kept′ k : ℕ} (h : Count last l 
 pub kept-few : (last : List ℕ) (I : Index) → Outlined I → (k : ℕ) → k ≤ count I → length (kept-of last I k) ≤ begin I k
 kept-few last I o k u =
     let P = plant last [] [] in
-    let i = interleaved-length (joined-interleaved (kept-in P I) (dropped-in P I) (list I) k
-    (λ j a b. rw (take-length (list I j)) at (picked-interleaved (keeps last (list I j)) (list I j) (length (list I j)) (omega arith)))) in
+    let i = interleaved-length (joined-interleaved (kept-in P I) (dropped-in P I) (list I) k (λ j a b. kept-interleaved last (list I j))) in
     let e = ap length (first-lists I o k u) ∙ length-take-le (begin I k) (I .postings) (begin-within I o k u) in
     omega arith
 

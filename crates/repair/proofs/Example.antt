@@ -1,7 +1,6 @@
 -- Plant P of document 01, with notes that were typed by hand: the repair gives P's own index. docs/REPAIR.md shows it.
-use Prim.Native.Nat.{ℕ}
 use mathlib.Core.Path.{_≡_, refl}
-use mathlib.Core.List.{List, [], _∷_}
+use mathlib.Core.List.{[], _∷_}
 use Rattle.laws.specs.Joined.{joined}
 use Rattle.laws.specs.Search as search
 use Rattle.plant.specs.Plant.{Plant, plant}

@@ -1,14 +1,14 @@
--- What passes a test and what does not are all entries together.
+-- What passes a test and what does not are all entries together, and so are what is kept and what is dropped.
 use Prim.Native.Nat.{ℕ, zero, suc, _+_, _-_, _≤_}
 use mathlib.Core.Path.{_≡_, refl, ap}
 use mathlib.Core.Bool.{Bool, not}
 use mathlib.Core.List.{List, [], _∷_, _++_}
 use native.Mathlib.Omega.{arith}
 use lib.ListN.{length, take}
-use lib.Seq.{take-suc}
+use lib.Seq.{take-suc, take-length}
 use Rattle.laws.specs.Joined.{joined, picked}
-use Rattle.laws.specs.Tables.{entry}
 use Rattle.laws.proofs.Cases.{either}
+use Rattle.repair.specs.Kept.{keeps, kept, dropped}
 use Rattle.repair.specs.Promises.{Interleaved, none, one, other}
 
 -- one after another
@@ -30,7 +30,7 @@ interleaved-none (one q i) e = ap (λ (t : List ℕ). q ∷ t) (interleaved-none
 interleaved-none (other q i) e = absurd (let n = ap length e in omega arith)
 
 -- the first n entries
-pub picked-interleaved : (f : ℕ → Bool) (l : List ℕ) (n : ℕ) → n ≤ length l → Interleaved (picked f l n) (picked (λ k. not (f k)) l n) (take n l)
+picked-interleaved : (f : ℕ → Bool) (l : List ℕ) (n : ℕ) → n ≤ length l → Interleaved (picked f l n) (picked (λ k. not (f k)) l n) (take n l)
 unfolding joined
 picked-interleaved f l zero u = none
 picked-interleaved f l (suc n) u =
@@ -41,3 +41,7 @@ pub joined-interleaved : (f g h : ℕ → List ℕ) (n : ℕ) → ((k : ℕ) →
 unfolding joined
 joined-interleaved f g h zero i = none
 joined-interleaved f g h (suc n) i = append (joined-interleaved f g h n (λ k a b. i k a (omega arith))) (i (suc n) (omega arith) (omega arith))
+
+-- what is kept of a list and what is dropped of it
+pub kept-interleaved : (last l : List ℕ) → Interleaved (kept last l) (dropped last l) l
+kept-interleaved last l = rw (take-length l) at (picked-interleaved (keeps last l) l (length l) (omega arith))

@@ -1,35 +1,33 @@
 -- Laws of what a repair keeps of a list: it carries to the same devices, its devices rise and none is redundant; a sound list stays as it is.
-use Prim.Native.Nat.{ℕ, zero, suc, _+_, _-_, _≤_, _<_}
+use Prim.Native.Nat.{ℕ, _-_, _≤_, _<_}
 use mathlib.Core.Path.{_≡_, refl, sym, ap, _∙_}
 use mathlib.Core.Bool.{Bool, true, false, not, _&&_, true≢false}
 use mathlib.Core.List.{List, []}
 use native.Mathlib.Omega.{arith}
 use lib.Dec.{leb, ltb, eqb}
 use lib.ListN.{length}
-use lib.Seq.{take-length}
 use borrow.Author.Tests.{eq-eqb, eqb-true}
 use Rattle.laws.specs.Search.{any}
 use Rattle.laws.specs.Tables.{entry}
 use Rattle.laws.proofs.Tests.{tests, flags, agree, refuted, and-yes, and-no, not-yes, not-no}
 use Rattle.laws.proofs.Cases.{by-order, either}
-use Rattle.laws.proofs.Search.{None, none-any, any-found, any-none, lowest-is, Lowest, lowest-of}
-use Rattle.laws.proofs.Joined.{some, some-picked, picked-all, picked-none, picked-each, picked-pairs}
+use Rattle.laws.proofs.Search.{none-any, any-found, any-none, lowest-is, Lowest, lowest-of}
+use Rattle.laws.proofs.Joined.{some, some-picked, picked-none, picked-each, picked-pairs}
 use Rattle.plant.specs.Plant.{Plant, size}
 use Rattle.plant.proofs.Forest.{Sound}
-use Rattle.index.specs.Postings.{device, shared, carries, outside, misplaced, shadowed, redundant}
+use Rattle.index.specs.Postings.{device, shared, carries, misplaced, shadowed, redundant}
 use Rattle.index.specs.Unshared.{unshared, member}
 use Rattle.index.specs.inner.Lists.{SoundList}
 use Rattle.index.proofs.Lists.{rises}
 use Rattle.index.proofs.Unshared.{unshared-some}
 use Rattle.repair.specs.Kept.{is-at, shared-at, choice, keeps, drops, kept, dropped}
-use Rattle.repair.specs.Refusals.{falls}
 use Rattle.repair.specs.inner.Lists.{Fit}
 
 -- ---- the posting for a device
 
 module _ (l : List ℕ) (k : ℕ) (a : 1 ≤ k) (b : k ≤ length l) where
   -- the first shared one of its device
-  pub choice-shared : shared (entry l k) ≡ true
+  choice-shared : shared (entry l k) ≡ true
       → ((i : ℕ) → 1 ≤ i → i < k → device (entry l i) ≡ device (entry l k) → shared (entry l i) ≡ true → ⊥)
       → choice l (device (entry l k)) ≡ k
   choice-shared p h =
@@ -39,7 +37,7 @@ module _ (l : List ℕ) (k : ℕ) (a : 1 ≤ k) (b : k ≤ length l) where
       (lowest-is _ (a, b) q (λ i c e. refuted _ (λ t. let u = and-yes (is-at l d i) (shared (entry l i)) .0 t in h i c (omega arith) (omega (flags, u .0)) (u .1))))
 
   -- the first one of a device that has no shared one
-  pub choice-private : any (length l) (shared-at l (device (entry l k))) ≡ false
+  choice-private : any (length l) (shared-at l (device (entry l k))) ≡ false
       → ((i : ℕ) → 1 ≤ i → i < k → device (entry l i) ≡ device (entry l k) → ⊥)
       → choice l (device (entry l k)) ≡ k
   choice-private p h = rw p (lowest-is _ (a, b) (simp tests refl) (λ i c e. simp tests (h i c (omega arith))))
@@ -180,8 +178,5 @@ module _ (last l : List ℕ) (sound : SoundList last l) where
       (none-any _ (sound .single) k a b)
 
   -- "a clean store comes back unchanged with nothing reported"
-  pub kept-all : kept last l ≡ l
-  kept-all = picked-all (keeps last l) l (length l) (omega arith) keeps-each ∙ take-length l
-
   pub dropped-none : dropped last l ≡ []
   dropped-none = picked-none (drops last l) l (length l) (λ k a b. not-no _ .1 (keeps-each k a b))

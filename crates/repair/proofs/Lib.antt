@@ -8,7 +8,7 @@ mod Counting
 mod Putting
 mod Compacting
 mod Lists
-mod Theorems
+pub mod Theorems
 mod Rows
 mod Outcomes
 pub mod Example

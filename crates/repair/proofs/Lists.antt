@@ -5,7 +5,7 @@ use mathlib.Core.List.{List, [], _∷_, _++_}
 use native.Mathlib.Omega.{arith}
 use native.Mathlib.Numerals.{add-one}
 use lib.ListN.{length, getD, take, drop, set, length-append, length-set}
-use lib.Seq.{slice, length-slice, length-take-le, take-all, drop-set-lt}
+use lib.Seq.{slice, length-slice, take-all, drop-set-lt}
 use Rattle.laws.specs.Joined.{joined}
 use Rattle.laws.specs.Tables.{entry}
 use Rattle.laws.proofs.Search.{none-any}
@@ -25,7 +25,7 @@ use Rattle.repair.proofs.Counting.{kept-few}
 use Rattle.repair.proofs.Compacting.{same-from, later, take-written, length-reported}
 
 -- the report has three entries for each posting that is dropped
-pub length-reports : (last : List ℕ) (I : Index) (k : ℕ) → length (reports-of last I k) ≡ 3 * length (dropped-of last I k)
+length-reports : (last : List ℕ) (I : Index) (k : ℕ) → length (reports-of last I k) ≡ 3 * length (dropped-of last I k)
 unfolding joined
 length-reports last I zero = refl
 length-reports last I (suc k) =
@@ -74,7 +74,7 @@ module _ {last : List ℕ} {I : Index} {r₀ starts p r : List ℕ} {f : Filled}
   round-end u = let e : k ≡ count I = omega (arith, t .within) in rw e at (t .done)
 
   -- what is kept goes no further than what has been read
-  pub round-low : f .postings ≤ start
+  round-low : f .postings ≤ start
   round-low = omega (arith, kept-few last I (R .outline) k (t .within), t .start-is, t .done .place-is)
 
   pub round-few : f .postings ≤ 1_048_576

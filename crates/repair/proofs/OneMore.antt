@@ -9,15 +9,15 @@ use lib.ListN.{length, take, replicate, length-append, replicate-append-replicat
 use lib.Seq.{take-suc, take-length, take-append-seam}
 use borrow.Author.Tests.{eq-eqb, ne-eqb, eqb-true, eqb-false}
 use Rattle.laws.specs.Joined.{joined, picked}
-use Rattle.laws.specs.Search.{any, lowest}
+use Rattle.laws.specs.Search.{lowest}
 use Rattle.laws.specs.Tables.{entry}
-use Rattle.laws.proofs.Tests.{tests, flags, refuted, and-yes, and-no, or-no, not-yes}
+use Rattle.laws.proofs.Tests.{tests, flags, refuted, and-yes, and-no, not-yes}
 use Rattle.laws.proofs.Cases.{by-order, either}
-use Rattle.laws.proofs.Search.{None, none-any, any-found, any-none, lowest-is, Lowest, lowest-of}
+use Rattle.laws.proofs.Search.{none-any, any-found, any-none, lowest-is, Lowest, lowest-of}
 use Rattle.laws.proofs.Joined.{some, some-append, some-one, entry-left, entry-end, joined-same, joined-empty, joined-split, picked-each}
 use Rattle.laws.specs.inner.Entries.{IsEntry}
 use Rattle.index.specs.Postings.{device, shared, reach, shadowed, redundant}
-use Rattle.repair.specs.Kept.{is-at, shared-at, choice, keeps, drops, kept, dropped}
+use Rattle.repair.specs.Kept.{choice, keeps, drops, kept, dropped}
 use Rattle.index.specs.inner.Lists.{Held}
 use Rattle.repair.specs.inner.Lists.{Fit, furthest}
 use Rattle.repair.specs.inner.Compaction.{stays, goes}
@@ -73,13 +73,13 @@ module _ (l : List ℕ) (q d : ℕ) where
       (λ e. rw (some-more (both d) l q, e, p) (first-left (at d) l q s))
 
   -- the new one is the first shared one, or the first
-  choice-shared : some (both d) l ≡ false → both d q ≡ true → choice (more l q) d ≡ length l + 1
-  choice-shared e p = rw (some-more (both d) l q, e, p) (first-right (both d) l q e p)
+  choice-new : some (both d) l ≡ false → both d q ≡ true → choice (more l q) d ≡ length l + 1
+  choice-new e p = rw (some-more (both d) l q, e, p) (first-right (both d) l q e p)
 
   choice-first : some (at d) l ≡ false → at d q ≡ true → choice (more l q) d ≡ length l + 1
   choice-first e p =
       let none : some (both d) l ≡ false = sym (any-none _ (λ k a b. and-no (at d (entry l k)) _ .1 (λ h. absurd (true≢false (sym h ∙ none-any _ e k a b))))) in
-      either (both d q) (choice-shared none)
+      either (both d q) (choice-new none)
       (λ h. rw (some-more (both d) l q, none, h) (first-right (at d) l q e p))
 
 -- the one for a device of the list stands in it
@@ -277,7 +277,7 @@ module _ (last : List ℕ) (H : Held last) (l : List ℕ) (q : ℕ) (F : Fit (le
     was = rw none
 
     now : choice (more l q) (device q) ≡ length l + 1
-    now = choice-shared l q (device q) none (rw s (rw (eq-eqb (device q) (device q) refl)))
+    now = choice-new l q (device q) none (rw s (rw (eq-eqb (device q) (device q) refl)))
 
     -- from it on all are of the device, and private
     from : (k : ℕ) → f ≤ k → k ≤ length l → device (entry l k) ≡ device q

@@ -1,26 +1,25 @@
 -- What a repair answers and leaves in the tables.
 use Prim.Native.Nat.{ℕ, zero, suc, _+_, _*_, _-_, _≤_}
 use mathlib.Core.Path.{_≡_, refl, sym, ap, _∙_}
-use mathlib.Core.List.{List, [], _∷_, _++_}
+use mathlib.Core.List.{List, _++_}
 use native.Mathlib.Omega.{arith}
-use lib.ListN.{length, take, drop, replicate, take-append-drop}
+use lib.ListN.{length, take, replicate, take-append-drop}
 use lib.Seq.{take-all}
 use Rattle.laws.proofs.Tests.{flags}
 use Rattle.plant.specs.Plant.{Plant}
 use Rattle.index.specs.Index.{Index, count}
-use Rattle.repair.specs.Repair.{repaired, all-dropped, report-of}
+use Rattle.repair.specs.Repair.{repaired, all-dropped}
 use Rattle.repair.specs.Refusals.{repair-refusal}
-use Rattle.repair.specs.Outcome.{repaired-or, outcome-of, kept-or, starts-after, postings-after, report-after, repaired-number, repaired-values, values-or, values-of}
+use Rattle.repair.specs.Outcome.{repaired-or, outcome-of, kept-or, starts-after, postings-after, report-after, repaired-number, repaired-values, values-or}
 use Rattle.repair.specs.Promises.{RepairGives, Unchanged}
 use Rattle.repair.specs.declared.Repaired.{Repaired}
 use Rattle.repair.specs.declared.Repaired.the-variants as variants
 use Rattle.repair.specs.declared.checks.Judged.{Judged}
 use Rattle.repair.specs.declared.compact.Filled.{Filled}
-use Rattle.repair.specs.inner.Counting.{kept-of, Judges}
+use Rattle.repair.specs.inner.Counting.{Judges}
 use Rattle.repair.specs.inner.Lists.{Repairable}
 use Rattle.repair.specs.inner.Compaction.{dropped-of, Compacted}
 use Rattle.repair.proofs.Interleaving.{interleaved-length}
-use Rattle.repair.proofs.Lists.{length-reports}
 use Rattle.repair.proofs.Theorems.{Unrefused, unrefused, interleaved, unchanged, promised}
 
 -- number and values of an outcome, by the refusal

@@ -1,19 +1,18 @@
 -- A pass over a list whose devices do not fall: what the postings passed reach, and what is kept and dropped of them.
 use Prim.Native.Nat.{ℕ, zero, suc, _+_, _-_, _≤_, _<_, max}
-use mathlib.Core.Path.{_≡_, refl, sym, ap, _∙_}
-use mathlib.Core.Bool.{Bool, true, false, cond, _||_}
+use mathlib.Core.Path.{_≡_, refl, ap, _∙_}
+use mathlib.Core.Bool.{cond}
 use mathlib.Core.List.{List, [], _∷_, _++_}
 use native.Mathlib.Omega.{arith}
 use native.Mathlib.Numerals.{add-one}
 use lib.Dec.{ltb}
 use lib.ListN.{length, getD, take, length-append}
-use lib.Seq.{take-suc, take-length, getD-take, length-take-le}
+use lib.Seq.{take-suc, getD-take, length-take-le}
 use borrow.Author.Tests.{lt-ltb, le-ltb}
-use Rattle.laws.specs.Search.{any}
 use Rattle.laws.specs.Tables.{entry}
 use Rattle.laws.proofs.Tests.{tests, or-no}
-use Rattle.laws.proofs.Cases.{by-order, either}
-use Rattle.laws.proofs.Search.{None, none-any}
+use Rattle.laws.proofs.Cases.{by-order}
+use Rattle.laws.proofs.Search.{None}
 use Rattle.index.specs.Postings.{device, reach, outside}
 use Rattle.index.specs.inner.Lists.{Held}
 use Rattle.repair.specs.Kept.{kept, dropped}

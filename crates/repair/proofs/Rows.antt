@@ -1,7 +1,7 @@
 -- Judging tables: each return is the first row that applies.
 use Prim.Native.Nat.{ℕ, _+_, _*_, _-_, _/_, _≤_, _<_}
-use mathlib.Core.Path.{_≡_, refl, sym, ap, _∙_}
-use mathlib.Core.Bool.{Bool, true, false, cond, _||_}
+use mathlib.Core.Path.{_≡_, sym, _∙_}
+use mathlib.Core.Bool.{true, false, cond, _||_}
 use native.Mathlib.Omega.{arith}
 use lib.ListN.{length}
 use borrow.Author.Tests.{lt-ltb, le-ltb}
@@ -16,7 +16,7 @@ use Rattle.index.specs.inner.Outlined.{Outlined}
 use Rattle.index.proofs.Outline.{outline-first, outline-passed}
 use Rattle.repair.specs.Repair.{all-dropped}
 use Rattle.repair.specs.Refusals.{any-outside, falls-in, too-short, repair-refusal}
-use Rattle.repair.specs.inner.Counting.{kept-of, CountedOf, Judges}
+use Rattle.repair.specs.inner.Counting.{CountedOf, Judges}
 use Rattle.repair.specs.declared.count.Counted.{Counted}
 use Rattle.repair.proofs.Interleaving.{interleaved-length}
 use Rattle.repair.proofs.Theorems.{astray-rows, interleaved}

@@ -1,17 +1,15 @@
 -- The theorems of a repair.
-use Prim.Native.Nat.{ℕ, zero, suc, _+_, _-_, _≤_}
+use Prim.Native.Nat.{ℕ, _+_, _-_, _≤_}
 use mathlib.Core.Path.{_≡_, refl, sym, ap, _∙_}
-use mathlib.Core.Bool.{Bool, true, false, _||_}
-use mathlib.Core.List.{List, [], _∷_, _++_, append-nil}
+use mathlib.Core.Bool.{false, _||_}
+use mathlib.Core.List.{List, [], _∷_, append-nil}
 use native.Mathlib.Omega.{arith}
 use lib.Dec.{ltb, eqb}
 use lib.ListN.{length, length-append}
-use lib.Seq.{take-length}
 use borrow.Author.Tests.{le-ltb}
 use Rattle.laws.specs.Joined.{joined}
 use Rattle.laws.specs.Search.{any}
-use Rattle.laws.specs.Tables.{entry}
-use Rattle.laws.proofs.Tests.{tests, or-no}
+use Rattle.laws.proofs.Tests.{tests}
 use Rattle.laws.proofs.Rows.{otherwise-none, pick-past}
 use Rattle.laws.proofs.Search.{any-none, any-or}
 use Rattle.laws.proofs.Joined.{any-same, some, some-joined, joined-empty, joined-next, joined-longer}
@@ -19,23 +17,20 @@ use Rattle.plant.specs.Plant.{Plant, size, plant-refusal}
 use Rattle.plant.proofs.Forest as forests
 use Rattle.index.specs.Postings.{device, outside, misplaced}
 use Rattle.index.specs.Unshared.{unshared, member}
-use Rattle.index.specs.Index.{Index, count, list, list-of, misplaced-in, redundant-in, tables-refusal}
-use Rattle.index.specs.Laid.{laid}
-use Rattle.index.specs.inner.Lists.{Held, SoundList}
+use Rattle.index.specs.Index.{Index, count, list, misplaced-in, redundant-in, tables-refusal}
+use Rattle.index.specs.inner.Lists.{SoundList}
 use Rattle.index.specs.inner.Outlined.{Outlined}
 use Rattle.index.proofs.Lists.{ranged, rises}
 use Rattle.index.proofs.Outline.{outlined, outline-passed}
 use Rattle.index.proofs.Accepted.{Accepted, accepted, accepts, accepted-outline, accepted-list, branches-held}
 use Rattle.index.proofs.Begins.{all-lists, laid-own}
 use Rattle.index.proofs.Laid.{laid-list, laid-outline, laid-same, laid-list-of}
-use Rattle.repair.specs.Kept.{keeps, kept, dropped}
 use Rattle.repair.specs.Repair.{kept-in, dropped-in, repaired, all-dropped, reported, report-in, report-of}
 use Rattle.repair.specs.Refusals.{any-outside, falls, falls-in, too-short, repair-refusal}
-use Rattle.repair.specs.Outcome.{outcome-of, starts-after, postings-after, report-after}
 use Rattle.repair.specs.Promises.{Interleaved, Repairs, Unchanged, Promised}
-use Rattle.repair.specs.inner.Lists.{astray, astray-in, Repairable}
-use Rattle.repair.proofs.Kept.{carried-kept, kept-sound, kept-all, dropped-none}
-use Rattle.repair.proofs.Interleaving.{interleaved-length, interleaved-none, picked-interleaved, joined-interleaved}
+use Rattle.repair.specs.inner.Lists.{astray-in, Repairable}
+use Rattle.repair.proofs.Kept.{carried-kept, kept-sound, dropped-none}
+use Rattle.repair.proofs.Interleaving.{interleaved-length, interleaved-none, joined-interleaved, kept-interleaved}
 use Rattle.repair.proofs.Lists.{list-fit}
 
 -- ---- postings astray
@@ -79,8 +74,7 @@ unrefused P I room h =
 -- kept and dropped together are all postings
 pub interleaved : (P : Plant) (I : Index) → Outlined I → Interleaved (repaired P I .postings) (all-dropped P I) (I .postings)
 interleaved P I o =
-    rw (all-lists I o) at (joined-interleaved (kept-in P I) (dropped-in P I) (list I) (count I) (λ k a b.
-    rw (take-length (list I k)) at (picked-interleaved (keeps (P .last) (list I k)) (list I k) (length (list I k)) (omega arith))))
+    rw (all-lists I o) at (joined-interleaved (kept-in P I) (dropped-in P I) (list I) (count I) (λ k a b. kept-interleaved (P .last) (list I k)))
 
 module _ (P : Plant) (I : Index) (room : ℕ) (u : Unrefused P I room) where
   abbrev S : forests.Sound P
@@ -128,11 +122,9 @@ none-in part n e k a b =
 
 module _ (P : Plant) (I : Index) (o : Outlined I) (none : length (all-dropped P I) ≡ 0) where
   same-lists : (k : ℕ) → 1 ≤ k → k ≤ count I → kept-in P I k ≡ list I k
-  same-lists k a b =
-      interleaved-none (rw (take-length (list I k)) at (picked-interleaved (keeps (P .last) (list I k)) (list I k) (length (list I k)) (omega arith)))
-      (none-in (dropped-in P I) (count I) none k a b)
+  same-lists k a b = interleaved-none (kept-interleaved (P .last) (list I k)) (none-in (dropped-in P I) (count I) none k a b)
 
-  pub same-index : repaired P I ≡ I
+  same-index : repaired P I ≡ I
   same-index = laid-same (I .terms) (kept-in P I) (list I) same-lists ∙ laid-own I o
 
   no-report : report-of P I ≡ []
@@ -168,7 +160,7 @@ module _ (P : Plant) (I : Index) (clean : tables-refusal P I ≡ 0) where
       let r44 : too-short P I room ≡ false = rw none-dropped (le-ltb room 0 (omega arith)) in
       rw (h .tables) (outline-passed 5 I _ o ∙ rw (r8, r41, r44))
 
-  pub clean-unchanged : (lent : List ℕ) → Unchanged P I lent
+  clean-unchanged : (lent : List ℕ) → Unchanged P I lent
   clean-unchanged lent = unchanged P I (accepted-outline P I clean) none-dropped lent (clean-refusal (length lent))
 
 pub promised : (P : Plant) (I : Index) (lent : List ℕ) → Promised P I lent

@@ -7,7 +7,7 @@ use lib.ListN.{length}
 use Rattle.laws.specs.Rows.{pick, otherwise}
 use Rattle.laws.specs.Search.{any}
 use Rattle.laws.specs.Tables.{entry}
-use Rattle.plant.specs.Plant.{Plant, size, plant-refusal}
+use Rattle.plant.specs.Plant.{Plant, plant-refusal}
 use Rattle.index.specs.Postings.{device, outside}
 use Rattle.index.specs.Index.{Index, count, list, outline-rows}
 use Rattle.repair.specs.Repair.{all-dropped}

@@ -4,7 +4,7 @@ use index::start_at;
 use integers::u16_to_u32;
 use integers::u32_to_usize;
 ghost use mathlib.Core.Path.{_≡_};
-ghost use mathlib.Core.Bool.{true, false};
+ghost use mathlib.Core.Bool.{false};
 ghost use Prim.Native.Nat.{_+_, _*_, _≤_, _<_};
 ghost use lib.ListN.{length};
 ghost use lib.Seq.{slice};
@@ -14,13 +14,14 @@ ghost use Rattle.repair.specs.Kept.{dropped};
 ghost use Rattle.repair.specs.inner.Lists.{Fit, Repairable};
 ghost use Rattle.repair.specs.inner.Compaction.{«dropped-of», stays, goes, told, Put, Compacting, Compacted};
 
-// The index after the postings that are kept, and that after what is reported.
+// The index after the postings that are kept, and the one after what is reported.
 pub struct Filled {
     pub postings: usize,
     pub report: usize,
 }
 
-// Which of the posting kept last and the next one stays, and which goes.
+// Of the posting kept last and the next one, which some posting before it reaches: the one that stays, and the one that goes. The next stays where
+// the last is private and of its device. Private postings of a device are alike, so it does not matter which of them goes.
 fn staying(held: u32, posting: u32) -> u32
     ensures { λ r. ⌜ r ≡ stays held posting ⌝ }
 {

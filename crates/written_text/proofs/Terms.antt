@@ -12,7 +12,6 @@ use Rattle.laws.specs.Search.{any}
 use Rattle.laws.specs.Tables.{entry}
 use Rattle.laws.proofs.Tests.{tests, flags}
 use Rattle.laws.proofs.Cases.{by-order, either}
-use Rattle.laws.proofs.Lists.{getD-within}
 use Rattle.laws.proofs.Search.{none-any, any-none}
 use Rattle.plant.specs.Plant.{Plant, plant, size}
 use Rattle.index.specs.Postings.{device, shared, misplaced, shadowed, redundant}

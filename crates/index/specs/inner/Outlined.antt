@@ -1,5 +1,5 @@
 -- Where the lists of an index lie. The contracts of private functions alone cite this.
-use Prim.Native.Nat.{ℕ, _≤_}
+use Prim.Native.Nat.{_≤_}
 use mathlib.Core.Path.{_≡_}
 use mathlib.Core.Bool.{false}
 use lib.ListN.{length}

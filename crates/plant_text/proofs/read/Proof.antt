@@ -1,6 +1,5 @@
 -- `plant_text::read` meets its contract.
 use borrow.Author.Needs.{needs}
-use native.Mathlib.Omega.{arith}
 use Rattle.plant.specs.Plant.{plant}
 use Rattle.index.specs.Index.{index}
 use Rattle.plant_text.specs.PlantText.{read-into}

@@ -3,7 +3,6 @@ use Prim.Native.Nat.{ℕ}
 use mathlib.Core.List.{List}
 use denote.Ref.{now}
 use borrow.Author.Needs.{needs}
-use native.Mathlib.Omega.{arith}
 use Rattle.plant.specs.Plant.{Plant, plant}
 use Rattle.index.specs.Index.{Index, index}
 use Rattle.repair.proofs.Outcomes.{ends-refused, ends-lists, ends-room, ends-few, ends-same, ends-made}

@@ -1,7 +1,7 @@
 -- What the count of postings tells. The contracts of private functions alone cite this.
 use Prim.Native.Nat.{ℕ}
 use mathlib.Core.Path.{_≡_}
-use mathlib.Core.Bool.{Bool, false}
+use mathlib.Core.Bool.{false}
 use mathlib.Core.List.{List, []}
 use lib.ListN.{length}
 use Rattle.laws.specs.Joined.{joined}

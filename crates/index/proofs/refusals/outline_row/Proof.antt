@@ -1,11 +1,11 @@
 -- `index::refusals::outline_row` meets its contract: each return is the first row that applies.
 use mathlib.Core.Path.{_≡_, sym, _∙_}
-use mathlib.Core.Bool.{true, false, _||_}
+use mathlib.Core.Bool.{true, false}
 use denote.Ref.{now}
 use borrow.Author.Needs.{needs}
 use lib.ListN.{length}
 use Rattle.laws.specs.Search.{any}
-use Rattle.index.specs.Index.{Index, index, count, unfit, misplaced-term, wrong-start, stray, outline-rows}
+use Rattle.index.specs.Index.{Index, index, count, unfit, misplaced-term}
 use Rattle.laws.proofs.Tests.{tests, flags}
 use Rattle.laws.proofs.Cases.{cases}
 use Rattle.index.proofs.refusals.outline_row.Statement.{statement}
