@@ -132,10 +132,6 @@ some-cond f true q = refl
 some-cond f false q = refl
 
 module _ (f : ℕ → Bool) (l : List ℕ) where
-  picked-more : (n : ℕ) → f (suc n) ≡ true → picked f l (suc n) ≡ picked f l n ++ (entry l (suc n) ∷ [])
-  unfolding joined
-  picked-more n p = rw p
-
   picked-less : (n : ℕ) → f (suc n) ≡ false → picked f l (suc n) ≡ picked f l n
   unfolding joined
   picked-less n p = rw (p, append-nil)
