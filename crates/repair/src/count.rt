@@ -1,4 +1,4 @@
-// How many postings a repair keeps. Of a device the first posting that none before it reaches stays, or one in its place; no other does.
+// How many postings a repair keeps: as many as there are postings whose device none before them in their list reaches.
 use index::list_at;
 use index::reach_by;
 use integers::u16_to_usize;
@@ -26,7 +26,7 @@ fn larger(a: usize, b: usize) -> usize
     if a < b { b } else { a }
 }
 
-// How far postings reach that have reached so far, with one more.
+// How far the postings passed reach, with one more.
 pub fn further(last: &[u16], reached: usize, posting: u32) -> usize
     requires { ⌜ IsEntry (now last) (device posting) ⌝ }
     ensures { λ r. ⌜ r ≡ max reached (reach (now (last .entry)) posting) ⌝ }
