@@ -1,4 +1,4 @@
-// The list of a term, a part of the postings.
+// The list of a term, a part of the postings; where lists start; a table cleared behind them.
 use integers::least;
 use integers::one_less;
 use integers::u16_to_u32;
