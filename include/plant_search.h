@@ -112,6 +112,25 @@ uint32_t plant_search_repair(
     uint32_t *report, size_t report_length,
     size_t numbers[2]);
 
+/* Tightens each list: the smallest with which the same devices carry its term. The lowest of refusals 1 to 9 that applies, or 0.
+ * The tables are checked in each call.
+ *
+ * A device that carries the term, but whose branch doesn't carry it throughout, has a posting for it alone. A branch that carries
+ * it throughout and isn't inside a larger such branch has one posting at its top: for the whole branch, or for the device alone
+ * where it feeds none. No list with the same carriers on this plant is shorter. Complete searches list the same devices, and
+ * plant_search_check accepts the outcome.
+ * starts, postings: tightened in their own room; entries that come free at the end of postings are set to 0. The postings are
+ * those up to the new number: hand that over as their length from then on.
+ * numbers: the new number of postings. After a refusal starts and postings are as they were, and the number is 0. */
+uint32_t plant_search_tighten(
+    const uint16_t *last, size_t last_length,
+    const uint16_t *root, size_t root_length,
+    const uint8_t *level, size_t level_length,
+    const uint16_t *terms, size_t terms_length,
+    uint32_t *starts, size_t starts_length,
+    uint32_t *postings, size_t postings_length,
+    size_t numbers[1]);
+
 /* Reads ask text: the refusal, 30 to 35, or 0.
  *
  * required, forbidden: the terms, then zeros.

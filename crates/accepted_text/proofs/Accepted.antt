@@ -12,16 +12,17 @@ use Rattle.laws.proofs.Tests.{tests, and-yes, not-no, eqb-yes}
 use Rattle.laws.proofs.Cases.{either, split-cond}
 use Rattle.laws.proofs.Rows.{pick-none}
 use Rattle.plant.specs.Plant.{Plant, size}
-use Rattle.index.specs.Postings.{device, shadowed}
+use Rattle.index.specs.Postings.{posting, device, shadowed}
 use Rattle.index.specs.Index.{Index, index, count, list, most-terms, most-postings, tables-refusal}
 use Rattle.index.proofs.Accepted.{Accepted, accepts}
-use Rattle.index.proofs.Growing.{device-of, accepted-none, accepted-open, accepted-add}
+use Rattle.index.proofs.Lists.{device-of}
+use Rattle.index.proofs.Growing.{accepted-none, accepted-open, accepted-add}
 use Rattle.text.specs.Lines.{lines}
 use Rattle.text.specs.Forms.{form, plain, unfinished}
 use Rattle.text.specs.Reading.{Read, made, no, unless, and-then, read-lines, line-of, end-of}
 use Rattle.text.specs.declared.Form.{Form}
 use Rattle.plant_text.specs.Form.{plant-line, device-line, term-line, own-line, all-line, close-line, rows}
-use Rattle.plant_text.specs.PlantText.{Stage, start, devices, terms, postings, closed, State, nothing, rank, is, stands, misplaced, unopened, out-of-range, too-deep, no-place, not-rising, is-redundant, line-refusal, posting, add-posting, next, step, longest-text, read-plant, room, kept}
+use Rattle.plant_text.specs.PlantText.{Stage, start, devices, terms, postings, closed, State, nothing, rank, is, stands, misplaced, unopened, out-of-range, too-deep, no-place, not-rising, is-redundant, line-refusal, add-posting, next, step, longest-text, read-plant, room, kept}
 use Rattle.plant_text.specs.declared.Room.{Room}
 use Rattle.accepted_text.proofs.Devices.{Growing, growing-none, growing-open, growing-close, growing-end}
 

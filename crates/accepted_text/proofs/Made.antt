@@ -5,11 +5,12 @@ use mathlib.Core.List.{List}
 use native.Mathlib.Omega.{arith}
 use lib.ListN.{length, take, length-append}
 use lib.Seq.{take-at}
+use Rattle.laws.specs.Lent.{filled}
 use Rattle.plant.specs.Plant.{size}
 use Rattle.index.specs.Index.{count}
 use Rattle.text.specs.Reading.{Read, made, no}
 use Rattle.plant_text.specs.declared.Outcome.the-variants as outcome
-use Rattle.plant_text.specs.PlantText.{State, outcome-of, filled}
+use Rattle.plant_text.specs.PlantText.{State, outcome-of}
 
 -- what the reader answers for a text that it accepts, or refuses
 pub record IsMade (X : Read State) (d t p : ℕ) : Type 0 where

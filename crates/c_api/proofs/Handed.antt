@@ -1,5 +1,5 @@
 -- What is handed back.
-use mathlib.Core.Path.{_≡_, ap, _∙_}
+use mathlib.Core.Path.{_≡_, sym, ap, _∙_}
 use mathlib.Core.List.{List, [], _∷_}
 use Prim.Native.Nat.{ℕ}
 use lib.ListN.{length}
@@ -17,8 +17,11 @@ use Rattle.plant_writer.specs.declared.Written.{Written}
 use Rattle.repair.specs.Outcome.{repaired-number, repaired-values}
 use Rattle.repair.specs.Promises.{RepairGives}
 use Rattle.repair.specs.declared.Repaired.{Repaired}
+use Rattle.tighten.specs.Outcome.{tightened-number, tightened-length}
+use Rattle.tighten.specs.Promises.{TightenGives}
+use Rattle.tighten.specs.declared.Tightened.{Tightened}
 use Rattle.c_api.specs.Handing.{numbers-of, outcome-numbers}
-use Rattle.c_api.specs.Interface.{SearchHanded, PlantHanded, TextHanded, RepairHanded}
+use Rattle.c_api.specs.Interface.{SearchHanded, PlantHanded, TextHanded, RepairHanded, TightenHanded}
 
 -- a search of the query that was handed over is a search of the same query, built anew
 pub search-handed : {P : Plant} {I : Index} {q Q : Query} {out out′ : List ℕ} {a : Answer} → q ≡ Q → Searched P I q out out′ a
@@ -51,4 +54,14 @@ repair-handed g f e = record {
   postings = g .postings;
   report = g .report;
   promised = g .promised;
+}
+
+pub tighten-handed : {P : Plant} {I : Index} {starts′ postings′ : List ℕ} {o : Tightened} → TightenGives P I starts′ postings′ o
+    → {n : ℕ} → n ≡ tightened-length o → {r : ℕ} → r ≡ tightened-number o → TightenHanded P I starts′ postings′ (n ∷ []) r
+tighten-handed g f e = record {
+  refusal = e ∙ g .number;
+  numbers = ap (λ (x : ℕ). x ∷ []) (f ∙ g .left);
+  starts = g .starts;
+  postings = g .postings;
+  promised = λ z. g .promised (sym (e ∙ g .number) ∙ z);
 }

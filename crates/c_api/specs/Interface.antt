@@ -4,7 +4,7 @@ use mathlib.Core.Path.{_≡_}
 use mathlib.Core.List.{List, [], _∷_}
 use lib.ListN.{length, take, getD}
 use Rattle.plant.specs.Plant.{Plant}
-use Rattle.index.specs.Index.{Index}
+use Rattle.index.specs.Index.{Index, tables-refusal}
 use Rattle.query.specs.declared.Query.{Query}
 use Rattle.search.specs.Answer.{answer, answer-list}
 use Rattle.search.specs.Promises.{Promised}
@@ -15,6 +15,8 @@ use Rattle.plant_writer.specs.Write.{text-after, length-of}
 use Rattle.repair.specs.Refusals.{repair-refusal}
 use Rattle.repair.specs.Outcome.{starts-after, postings-after, report-after, values-of}
 use Rattle.repair.specs.Promises as repairs
+use Rattle.tighten.specs.Outcome as tightening
+use Rattle.tighten.specs.Promises.{Tightens}
 use Rattle.c_api.specs.Handing.{numbers-of, outcome-numbers}
 
 -- `plant_search_search`: the refusal r, the four numbers beside it and the answer list, which was `out`
@@ -46,3 +48,11 @@ pub record RepairHanded (P : Plant) (I : Index) (lent starts′ postings′ repo
   pub postings : postings′ ≡ postings-after P I (length lent)
   pub report : report′ ≡ report-after P I lent
   pub promised : repairs.Promised P I lent
+
+-- `plant_search_tighten`: the refusal r, the number beside it, and starts and postings, which were those of I
+pub record TightenHanded (P : Plant) (I : Index) (starts′ postings′ one : List ℕ) (r : ℕ) : Type 0 where
+  pub refusal : r ≡ tables-refusal P I
+  pub numbers : one ≡ tightening.length-of P I ∷ []
+  pub starts : starts′ ≡ tightening.starts-after P I
+  pub postings : postings′ ≡ tightening.postings-after P I
+  pub promised : r ≡ 0 → Tightens P I

@@ -4,6 +4,7 @@ ghost use Rattle.c_api.specs.Handing.{levels-of, query-of, level-numbers
 ghost use Rattle.plant_text.specs.PlantText.{outcome-number};
 ghost use Rattle.plant_writer.specs.Write.{written-number, written-length};
 ghost use Rattle.repair.specs.Outcome.{repaired-number, repaired-values};
+ghost use Rattle.tighten.specs.Outcome.{tightened-number, tightened-length};
 use integers::u32_to_usize;
 use plant_text::Outcome;
 use plant_writer::Written;
@@ -12,6 +13,7 @@ use query::Query;
 use query::terms_of;
 use query_text::QueryRead;
 use repair::Repaired;
+use tighten::Tightened;
 
 // Any level code, or a range of them.
 fn levels_of(ranged: u32, low: u32, high: u32) -> Levels
@@ -134,5 +136,25 @@ pub fn repaired_numbers(repaired: Repaired) -> [usize; 2]
     match repaired {
         Repaired::Made(dropped, left) => [dropped, left],
         Repaired::Refused(_) => [0, 0],
+    }
+}
+
+// The refusal of an index that was to be tightened, or 0.
+pub fn tightened_refusal(tightened: Tightened) -> u32
+    ensures { λ r. ⌜ r ≡ tightened-number tightened ⌝ }
+{
+    match tightened {
+        Tightened::Made(_) => 0,
+        Tightened::Refused(refusal) => refusal,
+    }
+}
+
+// How many postings are left, or 0.
+pub fn tightened_length(tightened: Tightened) -> usize
+    ensures { λ r. ⌜ r ≡ tightened-length tightened ⌝ }
+{
+    match tightened {
+        Tightened::Made(left) => left,
+        Tightened::Refused(_) => 0,
     }
 }

@@ -7,13 +7,15 @@ ghost use Rattle.index.specs.Index.{index};
 ghost use Rattle.query_text.specs.QueryText.{read-query};
 ghost use Rattle.respond.specs.Respond.{Responds};
 ghost use Rattle.c_api.specs.Handing.{levels-of, query-of, query-numbers};
-ghost use Rattle.c_api.specs.Interface.{SearchHanded, PlantHanded, TextHanded, RepairHanded};
+ghost use Rattle.c_api.specs.Interface.{SearchHanded, PlantHanded, TextHanded, RepairHanded, TightenHanded};
 use handing::outcome_numbers;
 use handing::outcome_refusal;
 use handing::query_numbers;
 use handing::query_of;
 use handing::repaired_numbers;
 use handing::repaired_refusal;
+use handing::tightened_length;
+use handing::tightened_refusal;
 use handing::written_length;
 use handing::written_refusal;
 
@@ -138,6 +140,28 @@ pub extern "C" fn plant_search_repair(
     let repaired = repair::repair(last, root, level, terms, starts, postings, report);
     *numbers = repaired_numbers(repaired);
     repaired_refusal(repaired)
+}
+
+// Tightens each list of an index in its own room: it becomes the smallest with which the same devices carry its term. `numbers` is set to how
+// many postings are left.
+#[no_mangle]
+pub extern "C" fn plant_search_tighten(
+    last: &[u16],
+    root: &[u16],
+    level: &[u8],
+    terms: &[u16],
+    starts: &mut [u32],
+    postings: &mut [u32],
+    numbers: &mut [usize; 1],
+) -> u32
+    ensures { λ r. ⌜ TightenHanded
+        (plant (now (last .entry)) (now (root .entry)) (now (level .entry)))
+        (index (now (terms .entry)) (now (starts .entry)) (now (postings .entry)))
+        (now (starts .exit)) (now (postings .exit)) (now (numbers .exit)) r ⌝ }
+{
+    let tightened = tighten::tighten(last, root, level, terms, starts, postings);
+    *numbers = [tightened_length(tightened)];
+    tightened_refusal(tightened)
 }
 
 // Reads query text: the refusal, the terms in eight places each, and the other numbers of the query. A refusal gives the empty query.

@@ -1,7 +1,7 @@
 -- An index that grows by a term or a posting: what is accepted stays so.
-use Prim.Native.Nat.{ℕ, _+_, _-_, _*_, _<_, _≤_}
+use Prim.Native.Nat.{ℕ, _+_, _-_, _<_, _≤_}
 use mathlib.Core.Path.{_≡_, refl, sym, _∙_}
-use mathlib.Core.Bool.{Bool, true, false, cond}
+use mathlib.Core.Bool.{Bool, false}
 use mathlib.Core.List.{List, [], _∷_, _++_}
 use native.Mathlib.Omega.{arith}
 use borrow.Author.Tests.{lt-leb}
@@ -22,11 +22,6 @@ use Rattle.index.specs.Index.{Index, index, count, list, wrong-start, mi
 use Rattle.index.specs.inner.Lists.{SoundList}
 use Rattle.index.proofs.Lists.{ranged, rises, reaches, shadowed-last}
 use Rattle.index.proofs.Accepted.{Accepted, accepts, bounds}
-
--- "A posting is 2 times the device, plus 1 if it is for the whole branch"
-pub device-of : (d : ℕ) (s : Bool) → device (cond s (2 * d + 1) (2 * d)) ≡ d
-device-of d true = omega arith
-device-of d false = omega arith
 
 module _ (l : List ℕ) (q : ℕ) where
   longer : length (l ++ (q ∷ [])) ≡ length l + 1

@@ -7,6 +7,7 @@ mod Faults
 pub mod Accepted
 pub mod Begins
 pub mod Laid
+pub mod Laying
 pub mod Growing
 mod Halving
 pub mod ForwardStep

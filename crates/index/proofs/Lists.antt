@@ -1,17 +1,19 @@
 -- Tables whose keys rise, and lists of postings with none redundant.
-use Prim.Native.Nat.{ℕ, zero, suc, _+_, _-_, _≤_, _<_}
+use Prim.Native.Nat.{ℕ, zero, suc, _+_, _-_, _*_, _%_, _≤_, _<_}
 use mathlib.Core.Path.{_≡_, refl, sym, _∙_}
 use mathlib.Core.Bool.{Bool, true, false, cond, _&&_}
 use mathlib.Core.List.{List}
 use native.Mathlib.Omega.{arith}
-use borrow.Author.Tests.{lt-leb}
+use borrow.Author.Tests.{lt-leb, eq-eqb, ne-eqb}
 use lib.Dec.{leb}
 use lib.ListN.{length, getD}
+use Rattle.laws.specs.Joined.{chosen}
 use Rattle.laws.specs.Search.{any}
 use Rattle.laws.specs.Tables.{entry}
-use Rattle.index.specs.Postings.{device, shared, reach, misplaced, shadowed, redundant}
+use Rattle.index.specs.Postings.{posting, device, shared, reach, misplaced, shadowed, redundant}
 use Rattle.laws.proofs.Tests.{tests, agree}
 use Rattle.laws.proofs.Cases.{by-order, either}
+use Rattle.laws.proofs.Joined.{chosen-each, chosen-pairs}
 use Rattle.laws.proofs.Search.{None, none-yet, none-up, none-any, any-found, any-none}
 
 -- a pass over a table: before is the key of entry k, or 0 where k is 0, and no entry so far has met the test
@@ -101,6 +103,25 @@ module _ (last l : List ℕ) (n : ℕ) (sound : any (length l) (misplaced n devi
         (λ w. let z : i ≡ k = omega arith in rw z (simp tests (λ q. t (q .0))))))),
   ))
 
+-- the posting of a device: "2 times the device, plus 1 if it is for the whole branch"
+pub device-of : (d : ℕ) (whole : Bool) → device (posting d whole) ≡ d
+device-of d true = omega arith
+device-of d false = omega arith
+
+pub shared-of : (d : ℕ) (whole : Bool) → shared (posting d whole) ≡ whole
+shared-of d true = let e : (2 * d + 1) % 2 ≡ 1 = omega arith in rw e
+shared-of d false = let e : (2 * d) % 2 ≡ 0 = omega arith in rw e
+
+pub reach-of : (last : List ℕ) (d : ℕ) (whole : Bool) → reach last (posting d whole) ≡ cond whole (entry last d) d
+reach-of last d whole = rw (shared-of d whole, device-of d whole)
+
+-- the reach of a posting, by whether it is shared
+pub reach-shared : (last : List ℕ) (q : ℕ) → q % 2 ≡ 1 → reach last q ≡ entry last (device q)
+reach-shared last q p = rw (eq-eqb (q % 2) 1 p)
+
+pub reach-private : (last : List ℕ) (q : ℕ) → (q % 2 ≡ 1 → ⊥) → reach last q ≡ device q
+reach-private last q p = rw (ne-eqb (q % 2) 1 p)
+
 -- the reach of a posting, by where the branch of its device ends
 pub reach-at : (last : List ℕ) (q : ℕ) {d end r : ℕ} → d ≡ device q → end ≡ getD last (d - 1) 0 → r ≡ cond (shared q) end (device q) → r ≡ reach last q
 reach-at last q e f g = g ∙ rw (f, e)
@@ -114,3 +135,14 @@ module _ (last l : List ℕ) (n : ℕ) (sound : any (length l) (misplaced n devi
   pub shadowed-last : (e : ℕ) → any (length l) (redundant last l) ≡ false → 1 ≤ length l → device (entry l (length l)) < e
       → shadowed last l e ≡ (shared (entry l (length l)) && leb e (entry last (device (entry l (length l)))))
   shadowed-last e p a u = shadow last l n sound (length l) e (none-any _ p) (a, omega arith) u (λ i v w. absurd (omega arith))
+
+-- values that are chosen in order, whose keys are in range and rise, make a table whose keys rise
+pub chosen-placed : (most : ℕ) (key : ℕ → ℕ) (test : ℕ → Bool) (value : ℕ → ℕ) (n : ℕ)
+    → ((k : ℕ) → 1 ≤ k → k ≤ n → test k ≡ true → (1 ≤ key (value k)) × (key (value k) ≤ most))
+    → ((i k : ℕ) → 1 ≤ i → i < k → k ≤ n → test i ≡ true → test k ≡ true → key (value i) < key (value k))
+    → any (length (chosen test value n)) (misplaced most key (chosen test value n)) ≡ false
+chosen-placed most key test value n range rise = sym (any-none _ (λ k a b.
+    let r = chosen-each test value (λ x. (1 ≤ key x) × (key x ≤ most)) n range k a b in
+    by-order 1 k
+    (λ v. let s = chosen-pairs test value (λ x y. key x < key y) n rise (k - 1) k (omega arith) (omega arith) b in simp tests (omega arith))
+    (λ v. simp tests (omega arith))))

@@ -1,5 +1,5 @@
 -- Postings, what each carries, and what a sound list of them is.
-use Prim.Native.Nat.{ℕ, _-_, _/_, _%_}
+use Prim.Native.Nat.{ℕ, _+_, _-_, _*_, _/_, _%_}
 use mathlib.Core.Bool.{Bool, cond, _&&_, _||_}
 use mathlib.Core.List.{List}
 use lib.Dec.{leb, ltb, eqb}
@@ -8,6 +8,9 @@ use Rattle.laws.specs.Search.{any}
 use Rattle.laws.specs.Tables.{entry}
 
 -- "A posting is 2 times the device, plus 1 if it is for the whole branch": such a posting is shared, another private (document 000)
+abbrev pub posting : ℕ → Bool → ℕ
+posting d whole = cond whole (2 * d + 1) (2 * d)
+
 abbrev pub device : ℕ → ℕ
 device q = q / 2
 

@@ -1,3 +1,4 @@
 pub mod Lists
 pub mod Parts
 pub mod Outlined
+pub mod Laying

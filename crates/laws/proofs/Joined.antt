@@ -1,15 +1,15 @@
--- Laws of lists put together from numbered parts, of tables made by their numbers, and of entries picked by a test.
+-- Laws of lists put together from numbered parts, of tables made by their numbers, and of values chosen by a test.
 use Prim.Native.Nat.{ℕ, zero, suc, _+_, _-_, _≤_, _<_}
-use mathlib.Core.Path.{_≡_, refl, sym, _∙_}
+use mathlib.Core.Path.{_≡_, refl, sym, _∙_, ap}
 use mathlib.Core.Bool.{Bool, true, false, cond, _||_, _&&_, or-assoc, or-false}
 use mathlib.Core.List.{List, [], _∷_, _++_, append-nil, append-assoc}
 use native.Mathlib.Omega.{arith}
 use native.Mathlib.Numerals.{add-one}
-use lib.ListN.{length, getD, length-append, List·getD-append}
-use lib.Seq.{slice, getD-at, getD-append-add, take-append-seam, drop-append-seam}
+use lib.ListN.{length, getD, drop, length-append, List·getD-append}
+use lib.Seq.{slice, getD-at, getD-append-add, getD-append-seam, take-append-seam, drop-append-seam}
 use Rattle.laws.specs.Search.{any}
 use Rattle.laws.specs.Tables.{entry}
-use Rattle.laws.specs.Joined.{joined, tabled, picked}
+use Rattle.laws.specs.Joined.{joined, tabled, chosen}
 use Rattle.laws.proofs.Cases.{by-order, split-cond}
 
 -- ---- searches over numbers in two parts, and by tests that agree
@@ -67,7 +67,7 @@ module _ (part : ℕ → List ℕ) where
   unfolding joined
   joined-next k = rw (add-one k)
 
-  joined-last : (k : ℕ) → 1 ≤ k → joined part k ≡ joined part (k - 1) ++ part k
+  pub joined-last : (k : ℕ) → 1 ≤ k → joined part k ≡ joined part (k - 1) ++ part k
   joined-last k a = let e : k - 1 + 1 ≡ k = omega arith in rw e at (joined-next (k - 1))
 
   pub some-joined : (f : ℕ → Bool) (n : ℕ) → some f (joined part n) ≡ any n (λ k. some f (part k))
@@ -84,22 +84,37 @@ joined-split part k (suc m) =
     rw (e, joined-split part k m, append-assoc)
 
 module _ (part : ℕ → List ℕ) where
+  pub joined-upto : (k n : ℕ) → k ≤ n → joined part n ≡ joined part k ++ joined (λ j. part (k + j)) (n - k)
+  joined-upto k n u = let e : n ≡ k + (n - k) = omega arith in ap (joined part) e ∙ joined-split part k (n - k)
+
+  pub joined-rest : (k n : ℕ) → k ≤ n → drop (length (joined part k)) (joined part n) ≡ joined (λ j. part (k + j)) (n - k)
+  joined-rest k n u = rw (joined-upto k n u) (drop-append-seam (joined part k) (joined (λ j. part (k + j)) (n - k)))
+
   pub joined-longer : (k n : ℕ) → k ≤ n → length (joined part k) ≤ length (joined part n)
-  joined-longer k n u =
-      let e : n ≡ k + (n - k) = omega arith in
-      rw (e, joined-split part k (n - k)) (simp length-append (omega arith))
+  joined-longer k n u = rw (joined-upto k n u) (simp length-append (omega arith))
 
   -- part k stands between the ends of the parts before it and its own
   pub joined-part : (n k : ℕ) → 1 ≤ k → k ≤ n → slice (length (joined part (k - 1))) (length (joined part k)) (joined part n) ≡ part k
   joined-part n k a b =
-      let e : n ≡ k + (n - k) = omega arith in
-      rw (e, joined-split part k (n - k), take-append-seam (joined part k))
-      (rw (joined-last part k a) (drop-append-seam (joined part (k - 1)) (part k)))
+      rw (joined-upto k n b, take-append-seam (joined part k)) (rw (joined-last part k a) (drop-append-seam (joined part (k - 1)) (part k)))
+
+  -- a part of one entry
+  pub joined-at : (n k x : ℕ) → 1 ≤ k → k ≤ n → part k ≡ x ∷ [] → getD (joined part n) (length (joined part (k - 1))) 0 ≡ x
+  joined-at n k x a b p =
+      rw (joined-upto k n b, joined-last part k a, p, append-assoc (joined part (k - 1)) (x ∷ []) (joined (λ j. part (k + j)) (n - k)))
+      (getD-append-seam (joined part (k - 1)) x (joined (λ j. part (k + j)) (n - k)) 0)
+
+  -- empty parts add nothing
+  pub joined-still : (k n : ℕ) → k ≤ n → ((j : ℕ) → k < j → j ≤ n → part j ≡ []) → joined part n ≡ joined part k
+  unfolding joined
+  joined-still k zero u h = let e : k ≡ 0 = omega arith in rw e
+  joined-still k (suc n) u h =
+      by-order k (suc n)
+      (λ v. rw (h (suc n) v (omega arith), append-nil (joined part n)) (joined-still k n (omega arith) (λ j a b. h j a (omega arith))))
+      (λ v. let e : k ≡ suc n = omega arith in rw e)
 
   pub joined-empty : (n : ℕ) → ((k : ℕ) → 1 ≤ k → k ≤ n → part k ≡ []) → joined part n ≡ []
-  unfolding joined
-  joined-empty zero h = refl
-  joined-empty (suc n) h = rw (joined-empty n (λ k a b. h k a (omega arith)), h (suc n) (omega arith) (omega arith))
+  joined-empty n h = joined-still 0 n (omega arith) h ∙ joined-none part
 
 -- parts that are equal, one by one
 pub joined-same : (f g : ℕ → List ℕ) (n : ℕ) → ((k : ℕ) → 1 ≤ k → k ≤ n → f k ≡ g k) → joined f n ≡ joined g n
@@ -124,54 +139,54 @@ module _ (value : ℕ → ℕ) where
       (λ v. List·getD-append (tabled value n) (value (suc n) ∷ []) d i (omega arith) ∙ tabled-at n i d v)
       (λ v. let e : i ≡ n = omega arith in let g : n + 1 ≡ suc n = omega arith in rw (e, g) (getD-at (tabled value n) (value (suc n)) [] d n w))
 
--- ---- picked entries
+-- ---- chosen values
 
 some-cond : (f : ℕ → Bool) (p : Bool) (q : ℕ) → some f (cond p (q ∷ []) []) ≡ (p && f q)
 unfolding any
 some-cond f true q = refl
 some-cond f false q = refl
 
-module _ (f : ℕ → Bool) (l : List ℕ) where
-  picked-less : (n : ℕ) → f (suc n) ≡ false → picked f l (suc n) ≡ picked f l n
+module _ (f : ℕ → Bool) (value : ℕ → ℕ) where
+  chosen-less : (n : ℕ) → f (suc n) ≡ false → chosen f value (suc n) ≡ chosen f value n
   unfolding joined
-  picked-less n p = rw (p, append-nil)
+  chosen-less n p = rw (p, append-nil)
 
-  -- a search over the picked entries
-  pub some-picked : (g : ℕ → Bool) (n : ℕ) → some g (picked f l n) ≡ any n (λ k. f k && g (entry l k))
-  some-picked g n = some-joined (λ k. cond (f k) (entry l k ∷ []) []) g n ∙ any-same _ _ n (λ k a b. some-cond g (f k) (entry l k))
+  -- a search over them
+  pub some-chosen : (g : ℕ → Bool) (n : ℕ) → some g (chosen f value n) ≡ any n (λ k. f k && g (value k))
+  some-chosen g n = some-joined (λ k. cond (f k) (value k ∷ []) []) g n ∙ any-same _ _ n (λ k a b. some-cond g (f k) (value k))
 
   -- none passes
-  pub picked-none : (n : ℕ) → ((k : ℕ) → 1 ≤ k → k ≤ n → f k ≡ false) → picked f l n ≡ []
+  pub chosen-none : (n : ℕ) → ((k : ℕ) → 1 ≤ k → k ≤ n → f k ≡ false) → chosen f value n ≡ []
   unfolding joined
-  picked-none zero h = refl
-  picked-none (suc n) h = rw (picked-less n (h (suc n) (omega arith) (omega arith)), picked-none n (λ k a b. h k a (omega arith)))
+  chosen-none zero h = refl
+  chosen-none (suc n) h = rw (chosen-less n (h (suc n) (omega arith) (omega arith)), chosen-none n (λ k a b. h k a (omega arith)))
 
-  -- what holds of each entry that passes, holds of each picked one
-  pub picked-each : (Q : ℕ → Type 0) (n : ℕ) → ((k : ℕ) → 1 ≤ k → k ≤ n → f k ≡ true → Q (entry l k))
-      → (j : ℕ) → 1 ≤ j → j ≤ length (picked f l n) → Q (entry (picked f l n) j)
+  -- what holds of the value of each number that passes, holds of each entry
+  pub chosen-each : (Q : ℕ → Type 0) (n : ℕ) → ((k : ℕ) → 1 ≤ k → k ≤ n → f k ≡ true → Q (value k))
+      → (j : ℕ) → 1 ≤ j → j ≤ length (chosen f value n) → Q (entry (chosen f value n) j)
   unfolding joined
-  picked-each Q zero h j a b = absurd (omega arith)
-  picked-each Q (suc n) h j a b =
-      let xs = picked f l n in
-      let before : (k : ℕ) → 1 ≤ k → k ≤ length xs → Q (entry xs k) = picked-each Q n (λ k c d. h k c (omega arith)) in
+  chosen-each Q zero h j a b = absurd (omega arith)
+  chosen-each Q (suc n) h j a b =
+      let xs = chosen f value n in
+      let before : (k : ℕ) → 1 ≤ k → k ≤ length xs → Q (entry xs k) = chosen-each Q n (λ k c d. h k c (omega arith)) in
       split-cond (λ t. j ≤ length (xs ++ t) → Q (entry (xs ++ t) j)) (f (suc n))
       (λ p u. let m = simp length-append at u in
-      by-order j (length xs + 1) (λ v. rw (entry-left xs (entry l (suc n) ∷ []) j a (omega arith)) (before j a (omega arith)))
-      (λ v. let e : j ≡ length xs + 1 = omega arith in rw (e, entry-end xs (entry l (suc n))) (h (suc n) (omega arith) (omega arith) p)))
+      by-order j (length xs + 1) (λ v. rw (entry-left xs (value (suc n) ∷ []) j a (omega arith)) (before j a (omega arith)))
+      (λ v. let e : j ≡ length xs + 1 = omega arith in rw (e, entry-end xs (value (suc n))) (h (suc n) (omega arith) (omega arith) p)))
       (λ p u. let m = simp append-nil at u in rw append-nil (before j a m)) b
 
-  -- and of each two that pass, of each two picked ones
-  pub picked-pairs : (R : ℕ → ℕ → Type 0) (n : ℕ) → ((i k : ℕ) → 1 ≤ i → i < k → k ≤ n → f i ≡ true → f k ≡ true → R (entry l i) (entry l k))
-      → (i j : ℕ) → 1 ≤ i → i < j → j ≤ length (picked f l n) → R (entry (picked f l n) i) (entry (picked f l n) j)
+  -- and of each two that pass, of each two entries
+  pub chosen-pairs : (R : ℕ → ℕ → Type 0) (n : ℕ) → ((i k : ℕ) → 1 ≤ i → i < k → k ≤ n → f i ≡ true → f k ≡ true → R (value i) (value k))
+      → (i j : ℕ) → 1 ≤ i → i < j → j ≤ length (chosen f value n) → R (entry (chosen f value n) i) (entry (chosen f value n) j)
   unfolding joined
-  picked-pairs R zero h i j a c b = absurd (omega arith)
-  picked-pairs R (suc n) h i j a c b =
-      let xs = picked f l n in
-      let before : (i k : ℕ) → 1 ≤ i → i < k → k ≤ length xs → R (entry xs i) (entry xs k) = picked-pairs R n (λ i k c d e. h i k c d (omega arith)) in
+  chosen-pairs R zero h i j a c b = absurd (omega arith)
+  chosen-pairs R (suc n) h i j a c b =
+      let xs = chosen f value n in
+      let before : (i k : ℕ) → 1 ≤ i → i < k → k ≤ length xs → R (entry xs i) (entry xs k) = chosen-pairs R n (λ i k c d e. h i k c d (omega arith)) in
       split-cond (λ t. j ≤ length (xs ++ t) → R (entry (xs ++ t) i) (entry (xs ++ t) j)) (f (suc n))
       (λ p u. let m = simp length-append at u in
-      rw (entry-left xs (entry l (suc n) ∷ []) i a (omega arith))
-      (by-order j (length xs + 1) (λ v. rw (entry-left xs (entry l (suc n) ∷ []) j (omega arith) (omega arith)) (before i j a c (omega arith)))
-      (λ v. let e : j ≡ length xs + 1 = omega arith in rw (e, entry-end xs (entry l (suc n)))
-      (picked-each (λ q. R q (entry l (suc n))) n (λ k d e q. h k (suc n) d (omega arith) (omega arith) q p) i a (omega arith)))))
+      rw (entry-left xs (value (suc n) ∷ []) i a (omega arith))
+      (by-order j (length xs + 1) (λ v. rw (entry-left xs (value (suc n) ∷ []) j (omega arith) (omega arith)) (before i j a c (omega arith)))
+      (λ v. let e : j ≡ length xs + 1 = omega arith in rw (e, entry-end xs (value (suc n)))
+      (chosen-each (λ q. R q (value (suc n))) n (λ k d e q. h k (suc n) d (omega arith) (omega arith) q p) i a (omega arith)))))
       (λ p u. let m = simp append-nil at u in rw append-nil (before i j a c m)) b

@@ -9,3 +9,4 @@ pub mod Front
 pub mod Tally
 pub mod Joined
 pub mod Clearing
+pub mod Lent

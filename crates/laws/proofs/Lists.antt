@@ -1,10 +1,11 @@
--- Laws of lists: parts from one index up to another, and entries with another default.
+-- Laws of lists: parts from one index up to another, entries with another default, lists that are written to.
 use Prim.Native.Nat.{ℕ, zero, suc, _+_, _-_, _<_, _≤_, min}
 use native.Mathlib.Omega.{arith}
+use native.Mathlib.Numerals.{add-one}
 use mathlib.Core.List.{List, [], _∷_, _++_}
-use mathlib.Core.Path.{_≡_, refl, ap, _∙_}
-use lib.ListN.{length, getD, take, drop, length-take, drop-of-length-le}
-use lib.Seq.{slice, slice-cons, slice-empty, take-all, take-length, take-nil, take-take, drop-length, getD-take, getD-drop, length-take-le}
+use mathlib.Core.Path.{_≡_, refl, sym, ap, _∙_}
+use lib.ListN.{length, getD, take, drop, set, length-take, drop-of-length-le}
+use lib.Seq.{slice, slice-cons, slice-empty, take-all, take-length, take-nil, take-take, take-suc-set, drop-length, drop-drop, getD-take, getD-drop, length-take-le}
 use Rattle.laws.proofs.Cases.{by-order}
 
 -- an entry within the list does not depend on the default
@@ -61,3 +62,25 @@ slice-front l b p c x y z =
 -- an entry of a part
 pub getD-slice : (l : List ℕ) (b p c : ℕ) → b ≤ p → p < c → getD (slice b c l) (p - b) 0 ≡ getD l p 0
 getD-slice l b p c x y = let e : b + (p - b) ≡ p = omega arith in getD-drop b (take c l) (p - b) 0 ∙ rw (e, getD-take c l p 0 y)
+
+-- ---- a list that is written to
+
+-- an entry that is written after the first i
+pub take-written : (l : List ℕ) (i j a : ℕ) → j ≡ i + 1 → i < length l → take j (set l i a) ≡ take i l ++ (a ∷ [])
+take-written l i j a e u = rw (e, add-one i) (take-suc-set l i a u)
+
+-- two lists that are equal from index i on
+module _ (p q : List ℕ) (i : ℕ) (same : drop i p ≡ drop i q) where
+  pub same-from : (j d : ℕ) → i ≤ j → getD p j d ≡ getD q j d
+  same-from j d u =
+      let e : i + (j - i) ≡ j = omega arith in
+      rw e at (sym (getD-drop i p (j - i) d) ∙ ap (λ (t : List ℕ). getD t (j - i) d) same ∙ getD-drop i q (j - i) d)
+
+  pub same-later : (j : ℕ) → i ≤ j → drop j p ≡ drop j q
+  same-later j u =
+      let e : i + (j - i) ≡ j = omega arith in
+      rw e at (sym (drop-drop (j - i) i p) ∙ ap (drop (j - i)) same ∙ drop-drop (j - i) i q)
+
+  pub same-part : (e : ℕ) → i ≤ e → e ≤ length p → e ≤ length q → slice i e p ≡ slice i e q
+  same-part e u v w =
+      sym (slice-part i e p {from = i} {to = e} (omega arith) (omega arith)) ∙ ap (take (e - i)) same ∙ slice-part i e q {from = i} {to = e} (omega arith) (omega arith)

@@ -4,4 +4,5 @@ pub mod Rows
 pub mod Search
 pub mod Front
 pub mod Joined
+pub mod Lent
 pub mod inner

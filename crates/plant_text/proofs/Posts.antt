@@ -16,20 +16,21 @@ use Rattle.laws.proofs.Rows.{pick-none}
 use Rattle.laws.proofs.Tests.{flags, not-yes, not-no}
 use Rattle.laws.proofs.Cases.{either, by-order}
 use Rattle.plant.specs.Plant.{size}
-use Rattle.index.specs.Postings.{device, shared, reach, shadowed}
+use Rattle.index.specs.Postings.{posting, device, shared, reach, shadowed}
 use Rattle.index.specs.inner.Lists.{SoundList}
 use Rattle.text.specs.Forms.{unfinished}
 use Rattle.text.specs.inner.Finding.{found-at}
 use Rattle.text.specs.Reading.{Read, no}
 use Rattle.text.specs.declared.Found.{Found}
 use Rattle.plant_text.specs.Form.{all-line, close-line, rows, is-posting}
-use Rattle.plant_text.specs.PlantText.{State, postings, terms, current, posting, add-posting, line-refusal, next}
+use Rattle.plant_text.specs.PlantText.{State, postings, terms, current, add-posting, line-refusal, next}
 use Rattle.plant_text.specs.inner.Rest.{from-form, with-number, highest-known, line-after, ReadingAt, end-refusal}
 use Rattle.plant_text.specs.inner.Terms.{Before, posts-made, Adds, from-posting, SamePosts, PostsStart, PostsAt}
 use Rattle.plant_text.specs.declared.Room.{Room}
 use Rattle.plant_text.specs.declared.lines.Place.{Place}
 use Rattle.plant_text.proofs.Reading.{more-at, form-refused, form-taken, reading-form, found-moves, next-line, past-line, at-kind, posting-kinds, is-closing, not-ended}
-use Rattle.index.proofs.Growing.{device-of, empty-entry, sound-none, newest-entry, shadowed-newest, sound-more}
+use Rattle.index.proofs.Lists.{device-of}
+use Rattle.index.proofs.Growing.{empty-entry, sound-none, newest-entry, shadowed-newest, sound-more}
 
 -- the newest posting of a list, or 0
 module _ (posts : List ℕ) (begin n : ℕ) (k : n ≤ length posts) where

@@ -8,6 +8,7 @@ use borrow.Author.Tests.{lt-ltb, le-ltb, ne-eqb, eq-eqb, eqb-true}
 use lib.Dec.{eqb}
 use lib.ListN.{length, take, drop, replicate}
 use lib.Seq.{length-take-le}
+use Rattle.laws.specs.Lent.{filled}
 use Rattle.laws.specs.Rows.{pick}
 use Rattle.laws.proofs.Cases.{either}
 use Rattle.laws.proofs.Rows.{pick-none}
@@ -23,7 +24,7 @@ use Rattle.text.specs.declared.Form.{Form}
 use Rattle.text.specs.declared.Found.{Found}
 use Rattle.text.proofs.Reading as texts
 use Rattle.plant_text.specs.Form.{plant-line, device-line, term-line, close-line, rows}
-use Rattle.plant_text.specs.PlantText.{State, nothing, is, terms, closed, line-refusal, next, step, read-plant, room, outcome-of, outcome-number, outcome-values, read-number, read-values, kept, filled, outcome-after, plant-after, index-after}
+use Rattle.plant_text.specs.PlantText.{State, nothing, is, terms, closed, line-refusal, next, step, read-plant, room, outcome-of, outcome-number, outcome-values, read-number, read-values, kept, outcome-after, plant-after, index-after}
 use Rattle.plant_text.specs.inner.Rest.{from, from-form, with-number, highest-known, Bounded, ReadingAt, start-refusal}
 use Rattle.plant_text.specs.inner.Devices.{Fits, front, Same, ListStart, Stops, ListRead, list-result, devices-made, from-device}
 use Rattle.plant_text.specs.inner.Terms.{FitsIndex, terms-made, SameTerms, ClosedAt, at-term, none-at, TermsStart, TermsRead, terms-result}

@@ -1,14 +1,15 @@
 -- Plant text, read line by line: what it makes, and document 01's rows 20 to 29.
-use Prim.Native.Nat.{ℕ, suc, _+_, _-_, _*_, min}
+use Prim.Native.Nat.{ℕ, suc, _+_, _-_, min}
 use mathlib.Core.Bool.{Bool, true, false, cond, _&&_, _||_, not}
 use mathlib.Core.List.{List, [], _∷_, _++_}
 use lib.Dec.{leb, ltb, eqb}
-use lib.ListN.{length, set, replicate}
+use lib.ListN.{length, set}
+use Rattle.laws.specs.Lent.{filled}
 use Rattle.laws.specs.Limits.{most-devices, highest-term}
 use Rattle.laws.specs.Rows.{pick}
 use Rattle.laws.specs.Tables.{entry}
 use Rattle.plant.specs.Plant.{Plant, plant, size}
-use Rattle.index.specs.Postings.{device, shadowed}
+use Rattle.index.specs.Postings.{posting, device, shadowed}
 use Rattle.index.specs.Index.{Index, index, count, list, most-terms, most-postings}
 use Rattle.text.specs.Forms.{unfinished}
 use Rattle.text.specs.Reading.{Step, Read, made, no, unless, reading-forms}
@@ -152,10 +153,6 @@ open-term m t = record {
   index = index (m .index .terms ++ (t ∷ [])) (m .index .starts ++ (length (m .index .postings) ∷ [])) (m .index .postings);
 }
 
--- "A posting is 2 times the device, plus 1 if it is for the whole branch."
-abbrev pub posting : ℕ → Bool → ℕ
-posting d shared = cond shared (2 * d + 1) (2 * d)
-
 abbrev pub add-posting : State → ℕ → Bool → State
 add-posting m d shared = record {
   stage = postings;
@@ -253,10 +250,6 @@ read-values (no n k) = at-line k
 abbrev pub kept : Read State → State
 kept (made m) = m
 kept (no n k) = nothing
-
--- a table of n entries: l and then zeros
-abbrev pub filled : ℕ → List ℕ → List ℕ
-filled n l = l ++ replicate (n - length l) 0
 
 -- what reading a text into P and I answers, and what the tables hold then
 abbrev pub outcome-after : List ℕ → Plant → Index → Outcome

@@ -2,6 +2,7 @@
 use Prim.Native.Nat.{ℕ, zero, suc}
 use mathlib.Core.List.{List, _++_}
 use lib.ListN.{length, drop}
+use Rattle.laws.specs.Lent.{value-or}
 use Rattle.plant.specs.Plant.{Plant}
 use Rattle.index.specs.Index.{Index}
 use Rattle.written_text.specs.Text.{text-of}
@@ -36,9 +37,5 @@ written-length (written.Made long) = long
 written-length (written.Refused n) = 0
 
 -- and the length that is written, by the refusal
-abbrev pub length-or : ℕ → ℕ → ℕ
-length-or zero long = long
-length-or (suc n) long = 0
-
 abbrev pub length-of : Plant → Index → ℕ → ℕ
-length-of P I room = length-or (write-refusal P I room) (length (text-of P I))
+length-of P I room = value-or (write-refusal P I room) (length (text-of P I))

@@ -4,16 +4,15 @@ use mathlib.Core.Path.{_≡_, refl, sym, ap, _∙_}
 use mathlib.Core.Bool.{true, false}
 use mathlib.Core.List.{List, [], _∷_, _++_, append-assoc, append-nil}
 use native.Mathlib.Omega.{arith}
-use native.Mathlib.Numerals.{add-one}
 use lib.Dec.{ltb}
 use lib.ListN.{length, getD, take, drop, set, length-append, length-set}
-use lib.Seq.{slice, length-slice, length-take-le, take-take, take-length, take-append-add, getD-take, getD-drop, getD-append-add, drop-drop, take-suc-set, drop-set-lt}
+use lib.Seq.{slice, length-slice, length-take-le, take-take, take-length, take-append-add, getD-take, getD-append-add, drop-set-lt}
 use borrow.Author.Tests.{ltb-true, ltb-false}
 use Rattle.laws.specs.Tables.{entry}
 use Rattle.laws.specs.inner.Entries.{IsEntry}
 use Rattle.laws.specs.Joined.{joined}
 use Rattle.laws.proofs.Cases.{by-order, either}
-use Rattle.laws.proofs.Lists.{getD-slice}
+use Rattle.laws.proofs.Lists.{getD-slice, take-written, same-from, same-later}
 use Rattle.index.specs.Postings.{device, reach}
 use Rattle.index.specs.inner.Lists.{Held}
 use Rattle.repair.specs.Kept.{kept, dropped}
@@ -23,23 +22,6 @@ use Rattle.repair.specs.inner.Compaction.{stays, goes, told, Put, Compac
 use Rattle.repair.specs.declared.compact.Filled.{Filled}
 use Rattle.repair.proofs.Interleaving.{interleaved-length, kept-interleaved}
 use Rattle.repair.proofs.Passing.{Passed, fit-take, passed-start, passed-turn, passed-fresh, passed-covered, passed-device}
-
--- ---- lists
-
--- two tables that are equal from i on
-pub same-from : (p q : List ℕ) (i j d : ℕ) → drop i p ≡ drop i q → i ≤ j → getD p j d ≡ getD q j d
-same-from p q i j d h u =
-    let e : i + (j - i) ≡ j = omega arith in
-    rw e at (sym (getD-drop i p (j - i) d) ∙ ap (λ (t : List ℕ). getD t (j - i) d) h ∙ getD-drop i q (j - i) d)
-
-pub later : (p q : List ℕ) (i j : ℕ) → drop i p ≡ drop i q → i ≤ j → drop j p ≡ drop j q
-later p q i j h u =
-    let e : i + (j - i) ≡ j = omega arith in
-    rw e at (sym (drop-drop (j - i) i p) ∙ ap (drop (j - i)) h ∙ drop-drop (j - i) i q)
-
--- an entry that is written after the first i
-pub take-written : (l : List ℕ) (i j a : ℕ) → j ≡ i + 1 → i < length l → take j (set l i a) ≡ take i l ++ (a ∷ [])
-take-written l i j a e u = rw (e, add-one i) (take-suc-set l i a u)
 
 -- ---- reports
 
@@ -160,7 +142,7 @@ module _ {last p₀ r₀ : List ℕ} {base end term to at : ℕ} {p r : List ℕ
     long = length-slice base end p₀ (c .ordered .2)
 
     here : q ≡ getD l (i - base) 0
-    here = same-from p p₀ i i 0 (c .done .rest) (omega arith) ∙ sym (getD-slice p₀ base i end (c .low) more)
+    here = same-from p p₀ i (c .done .rest) i 0 (omega arith) ∙ sym (getD-slice p₀ base i end (c .low) more)
 
     next-number : i + 1 - base ≡ i - base + 1
     next-number = omega (arith, c .low)
@@ -249,7 +231,7 @@ module _ {last p₀ r₀ : List ℕ} {base end term to at : ℕ} {p r : List ℕ
         size = length-set p (f .postings) q ∙ c .done .size;
         place-is = rw (fresh-next .0) (let a = length-append ks (q ∷ []) in let h = c .done .place-is in omega arith);
         front = take-written p (f .postings) (f .postings + 1) q refl course-place ∙ rw (fresh-next .0, c .done .front) (append-assoc (take to p₀) ks (q ∷ []));
-        rest = drop-set-lt (i + 1) p (f .postings) q (omega (arith, place-low)) ∙ later p p₀ i (i + 1) (c .done .rest) (omega arith);
+        rest = drop-set-lt (i + 1) p (f .postings) q (omega (arith, place-low)) ∙ same-later p p₀ i (c .done .rest) (i + 1) (omega arith);
         report-size = c .done .report-size;
         line-is = rw (fresh-next .1) (c .done .line-is);
         report-front = rw (fresh-next .1) (c .done .report-front);
@@ -276,12 +258,12 @@ module _ {last p₀ r₀ : List ℕ} {base end term to at : ℕ} {p r : List ℕ
                 omega arith);
             front = take-written p (f .postings - 1) (f .postings) _ (sym z) (omega (arith, course-place))
                 ∙ rw (before-held e, next-number, nx .0) (append-assoc (take to p₀) (take (length ks - 1) ks) (stays (entry ks (length ks)) q ∷ []));
-            rest = drop-set-lt (i + 1) p (f .postings - 1) _ (omega (arith, place-low)) ∙ later p p₀ i (i + 1) (c .done .rest) (omega arith);
+            rest = drop-set-lt (i + 1) p (f .postings - 1) _ (omega (arith, place-low)) ∙ same-later p p₀ i (c .done .rest) (i + 1) (omega arith);
             report-size = length-told r (f .report) term y ∙ c .done .report-size;
             line-is = rw (next-number, nx .1) (let a = length-append ds (y ∷ []) in let h = c .done .line-is in omega arith);
             report-front = take-told r (f .report) term y (course-room e)
                 ∙ rw (c .done .report-front, next-number, nx .1, reported-append term ds (y ∷ [])) (append-assoc (take at r₀) (reported term ds) (reported term (y ∷ [])));
-            report-rest = drop-told r (f .report) term y ∙ later r r₀ (f .report) (f .report + 3) (c .done .report-rest) (omega arith);
+            report-rest = drop-told r (f .report) term y ∙ same-later r r₀ (f .report) (c .done .report-rest) (f .report + 3) (omega arith);
           }
 
     pub course-turn : {p′ r′ : List ℕ} {f′ : Filled} {reached′ : ℕ} → Put p r f (ltb reached (device q)) term q p′ r′ f′ → reached′ ≡ max reached (reach last q)

@@ -1,12 +1,12 @@
 -- Counting what is kept: of a list, and of all lists.
 use Prim.Native.Nat.{ℕ, _+_, _≤_, _<_, max}
-use mathlib.Core.Path.{_≡_, refl, sym, ap, _∙_}
+use mathlib.Core.Path.{_≡_, refl, sym, _∙_}
 use mathlib.Core.Bool.{true, false, cond, true≢false}
 use mathlib.Core.List.{List, []}
 use native.Mathlib.Omega.{arith}
 use lib.Dec.{ltb}
 use lib.ListN.{length, getD, take, length-append}
-use lib.Seq.{take-all, length-take-le}
+use lib.Seq.{take-all}
 use Rattle.laws.specs.Joined.{joined}
 use Rattle.laws.specs.Tables.{entry}
 use Rattle.laws.proofs.Tests.{tests, or-yes, or-no}
@@ -19,13 +19,14 @@ use Rattle.index.specs.Index.{Index, count, list}
 use Rattle.index.specs.inner.Lists.{Held}
 use Rattle.index.specs.inner.Outlined.{Outlined}
 use Rattle.index.proofs.Lists.{here, previous}
-use Rattle.index.proofs.Begins.{begin, begin-within, first-lists}
+use Rattle.index.proofs.Begins.{begin-within}
+use Rattle.index.proofs.Laying.{NoLonger, first-shorter}
 use Rattle.repair.specs.Kept.{kept}
-use Rattle.repair.specs.Repair.{kept-in, dropped-in}
+use Rattle.repair.specs.Repair.{kept-in}
 use Rattle.repair.specs.inner.Lists.{astray, astray-in}
 use Rattle.repair.specs.inner.Counting.{kept-of, CountedIn, CountedOf}
 use Rattle.repair.specs.declared.count.Counted.{Counted}
-use Rattle.repair.proofs.Interleaving.{interleaved-length, joined-interleaved, kept-interleaved}
+use Rattle.repair.proofs.Interleaving.{interleaved-length, kept-interleaved}
 use Rattle.repair.proofs.Passing.{Passed, fit-front, passed-start, passed-count, passed-turn}
 
 -- ---- one list
@@ -110,13 +111,9 @@ module _ {last l : List ℕ} {before reached kept′ k : ℕ} (h : Count last l 
 
 -- ---- all lists
 
--- of k lists no more is kept than they have postings
-pub kept-few : (last : List ℕ) (I : Index) → Outlined I → (k : ℕ) → k ≤ count I → length (kept-of last I k) ≤ begin I k
-kept-few last I o k u =
-    let P = plant last [] [] in
-    let i = interleaved-length (joined-interleaved (kept-in P I) (dropped-in P I) (list I) k (λ j a b. kept-interleaved last (list I j))) in
-    let e = ap length (first-lists I o k u) ∙ length-take-le (begin I k) (I .postings) (begin-within I o k u) in
-    omega arith
+-- no list has more postings than it had
+pub kept-shorter : (last : List ℕ) (I : Index) → NoLonger I (kept-in (plant last [] []) I)
+kept-shorter last I k a b = omega (arith, interleaved-length (kept-interleaved last (list I k)))
 
 -- after k lists
 pub record Tally (last : List ℕ) (I : Index) (kept′ k : ℕ) : Type 0 where
@@ -154,4 +151,4 @@ module _ {last : List ℕ} {I : Index} {kept′ k : ℕ} (t : Tally last I kept�
 
     -- the sum is no more than there are postings
     pub tally-few : Outlined I → c .astray ≡ false → kept′ + c .kept ≤ length (I .postings)
-    tally-few o p = omega (arith, tally-turn p .kept-is, kept-few last I o (k + 1) (omega arith), begin-within I o (k + 1) (omega arith))
+    tally-few o p = omega (arith, tally-turn p .kept-is, first-shorter I (kept-in (plant last [] []) I) o (kept-shorter last I) (k + 1) (omega arith), begin-within I o (k + 1) (omega arith))

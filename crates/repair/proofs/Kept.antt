@@ -1,5 +1,5 @@
 -- Laws of what a repair keeps of a list: it carries to the same devices, its devices rise and none is redundant; a sound list stays as it is.
-use Prim.Native.Nat.{ℕ, _-_, _≤_, _<_}
+use Prim.Native.Nat.{ℕ, _≤_, _<_}
 use mathlib.Core.Path.{_≡_, refl, sym, ap, _∙_}
 use mathlib.Core.Bool.{Bool, true, false, not, _&&_, true≢false}
 use mathlib.Core.List.{List, []}
@@ -12,13 +12,13 @@ use Rattle.laws.specs.Tables.{entry}
 use Rattle.laws.proofs.Tests.{tests, flags, agree, refuted, and-yes, and-no, not-yes, not-no}
 use Rattle.laws.proofs.Cases.{by-order, either}
 use Rattle.laws.proofs.Search.{none-any, any-found, any-none, lowest-is, Lowest, lowest-of}
-use Rattle.laws.proofs.Joined.{some, some-picked, picked-none, picked-each, picked-pairs}
+use Rattle.laws.proofs.Joined.{some, some-chosen, chosen-none}
 use Rattle.plant.specs.Plant.{Plant, size}
 use Rattle.plant.proofs.Forest.{Sound}
 use Rattle.index.specs.Postings.{device, shared, carries, misplaced, shadowed, redundant}
 use Rattle.index.specs.Unshared.{unshared, member}
 use Rattle.index.specs.inner.Lists.{SoundList}
-use Rattle.index.proofs.Lists.{rises}
+use Rattle.index.proofs.Lists.{rises, chosen-placed}
 use Rattle.index.proofs.Unshared.{unshared-some}
 use Rattle.repair.specs.Kept.{is-at, shared-at, choice, keeps, drops, kept, dropped}
 use Rattle.repair.specs.inner.Lists.{Fit}
@@ -118,7 +118,7 @@ module _ (P : Plant) (S : Sound P) (l : List ℕ) (F : Fit (size P) l) where
 
   carried-some : (d : ℕ) → some (λ q. carries (P .last) q d) (kept (P .last) l) ≡ some (λ q. carries (P .last) q d) l
   carried-some d =
-      some-picked (keeps (P .last) l) l (λ q. carries (P .last) q d) (length l)
+      some-chosen (keeps (P .last) l) (entry l) (λ q. carries (P .last) q d) (length l)
       ∙ sym (agree _ _ (
         (λ p. either (any (length l) (λ i. branch (P .last) d (entry l i)))
             (λ b. by-branch d _ (lowest-of _ (length l) b))
@@ -132,30 +132,20 @@ module _ (P : Plant) (S : Sound P) (l : List ℕ) (F : Fit (size P) l) where
 
   -- ---- what is kept is sound
 
-  kept-inside : (j : ℕ) → 1 ≤ j → j ≤ length (kept (P .last) l)
-      → (1 ≤ device (entry (kept (P .last) l) j)) × (device (entry (kept (P .last) l) j) ≤ size P)
-  kept-inside = picked-each (keeps (P .last) l) l (λ q. (1 ≤ device q) × (device q ≤ size P)) (length l) (λ k a b p. (F .first k a b, F .last k a b))
-
-  kept-rises : (i j : ℕ) → 1 ≤ i → i < j → j ≤ length (kept (P .last) l) → device (entry (kept (P .last) l) i) < device (entry (kept (P .last) l) j)
-  kept-rises = picked-pairs (keeps (P .last) l) l (λ p q. device p < device q) (length l) (λ i k a c b p q.
+  kept-placed : any (length (kept (P .last) l)) (misplaced (size P) device (kept (P .last) l)) ≡ false
+  kept-placed = chosen-placed (size P) device (keeps (P .last) l) (entry l) (length l) (λ k a b p. (F .first k a b, F .last k a b)) (λ i k a c b p q.
       let s = F .sorted i k a (omega arith) b in
       by-order (device (entry l i)) (device (entry l k)) (λ v. v) (λ v.
       let e : device (entry l i) ≡ device (entry l k) = omega arith in
       let z : i ≡ k = kept-one (P .last) l i p .0 ∙ ap (choice l) e ∙ sym (kept-one (P .last) l k q .0) in
       absurd (omega arith)))
 
-  kept-placed : any (length (kept (P .last) l)) (misplaced (size P) device (kept (P .last) l)) ≡ false
-  kept-placed = sym (any-none _ (λ k a b.
-      let r = kept-inside k a b in
-      by-order 1 k (λ v. let s = kept-rises (k - 1) k (omega arith) (omega arith) b in simp tests (omega arith))
-      (λ v. simp tests (omega arith))))
-
   kept-single : any (length (kept (P .last) l)) (redundant (P .last) (kept (P .last) l)) ≡ false
   kept-single =
-      some-picked (keeps (P .last) l) l (λ q. shadowed (P .last) (kept (P .last) l) (device q)) (length l)
+      some-chosen (keeps (P .last) l) (entry l) (λ q. shadowed (P .last) (kept (P .last) l) (device q)) (length l)
       ∙ sym (any-none _ (λ k a b. and-no (keeps (P .last) l k) _ .1 (λ p.
       let r = none-any _ (kept-one (P .last) l k p .1) in
-      some-picked (keeps (P .last) l) l (λ q. shared q && ltb (device q) (device (entry l k)) && leb (device (entry l k)) (entry (P .last) (device q))) (length l)
+      some-chosen (keeps (P .last) l) (entry l) (λ q. shared q && ltb (device q) (device (entry l k)) && leb (device (entry l k)) (entry (P .last) (device q))) (length l)
       ∙ sym (any-none _ (λ i c e. and-no (keeps (P .last) l i) _ .1 (λ q. r i c e))))))
 
   pub kept-sound : SoundList (P .last) (kept (P .last) l)
@@ -179,4 +169,4 @@ module _ (last l : List ℕ) (sound : SoundList last l) where
 
   -- "a clean store comes back unchanged with nothing reported"
   pub dropped-none : dropped last l ≡ []
-  dropped-none = picked-none (drops last l) l (length l) (λ k a b. not-no _ .1 (keeps-each k a b))
+  dropped-none = chosen-none (drops last l) (entry l) (length l) (λ k a b. not-no _ .1 (keeps-each k a b))

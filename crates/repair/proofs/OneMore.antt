@@ -14,7 +14,7 @@ use Rattle.laws.specs.Tables.{entry}
 use Rattle.laws.proofs.Tests.{tests, flags, refuted, and-yes, and-no, not-yes}
 use Rattle.laws.proofs.Cases.{by-order, either}
 use Rattle.laws.proofs.Search.{none-any, any-found, any-none, lowest-is, Lowest, lowest-of}
-use Rattle.laws.proofs.Joined.{some, some-append, some-one, entry-left, entry-end, joined-same, joined-empty, joined-split, picked-each}
+use Rattle.laws.proofs.Joined.{some, some-append, some-one, entry-left, entry-end, joined-same, joined-empty, joined-split, chosen-each}
 use Rattle.laws.specs.inner.Entries.{IsEntry}
 use Rattle.index.specs.Postings.{device, shared, reach, shadowed, redundant}
 use Rattle.repair.specs.Kept.{choice, keeps, drops, kept, dropped}
@@ -408,7 +408,7 @@ module _ (last : List ℕ) (H : Held last) (l : List ℕ) (q : ℕ) (F : Fit (le
   held-lone : 1 ≤ length (kept last l) → held ≡ device q * 2 → (shadowed last l (device q) ≡ false) × (some (both (device q)) l ≡ false)
   unfolding Lone
   held-lone n e =
-      let h = picked-each (keeps last l) l Lone (length l) lone (length (kept last l)) n (omega arith) in
+      let h = chosen-each (keeps last l) (entry l) Lone (length l) lone (length (kept last l)) n (omega arith) in
       h (omega arith) (simp tests (omega arith))
 
   -- where the new one goes, and is the same as the last if that is private and of its device

@@ -4,13 +4,14 @@ use mathlib.Core.Path.{_≡_, refl, sym, ap, _∙_}
 use mathlib.Core.List.{List, _++_}
 use native.Mathlib.Omega.{arith}
 use lib.ListN.{length, take, replicate, take-append-drop}
-use lib.Seq.{take-all}
 use Rattle.laws.proofs.Tests.{flags}
+use Rattle.laws.proofs.Lent.{untouched}
 use Rattle.plant.specs.Plant.{Plant}
 use Rattle.index.specs.Index.{Index, count}
+use Rattle.index.proofs.Laying.{laid-starts, laid-postings}
 use Rattle.repair.specs.Repair.{repaired, all-dropped}
 use Rattle.repair.specs.Refusals.{repair-refusal}
-use Rattle.repair.specs.Outcome.{repaired-or, outcome-of, kept-or, starts-after, postings-after, report-after, repaired-number, repaired-values, values-or}
+use Rattle.repair.specs.Outcome.{repaired-or, outcome-of, starts-after, postings-after, report-after, repaired-number, repaired-values, values-or}
 use Rattle.repair.specs.Promises.{RepairGives, Unchanged}
 use Rattle.repair.specs.declared.Repaired.{Repaired}
 use Rattle.repair.specs.declared.Repaired.the-variants as variants
@@ -49,10 +50,6 @@ refused-or : (n d l : ℕ) → (n ≡ 0 → ⊥) → variants.Refused n ≡ repa
 refused-or zero d l h = absurd (h refl)
 refused-or (suc n) d l h = refl
 
-untouched : (n : ℕ) (made before : List ℕ) → (n ≡ 0 → ⊥) → before ≡ kept-or n made before
-untouched zero made before h = absurd (h refl)
-untouched (suc n) made before h = refl
-
 module _ (P : Plant) (I : Index) (lent : List ℕ) {j : Judged} (e : Judges P I (length lent) j) where
   pub ends-refused : (j .refusal ≡ 0 → ⊥) → RepairGives P I lent (I .starts) (I .postings) lent (variants.Refused (j .refusal))
   ends-refused h =
@@ -90,9 +87,9 @@ module _ (P : Plant) (I : Index) (lent : List ℕ) {j : Judged} (e : Judges P I 
       ends-made {p′} c =
           let l : j .left ≡ length (repaired P I .postings) = e .left-is z in
           let d : length (I .postings) - j .left ≡ length (all-dropped P I) = omega (arith, counted) in
-          let s : j .left ≡ f .postings = l ∙ sym (m .place-is) in
+          let s : j .left ≡ f .postings = l ∙ sym (m .lists .place-is) in
           gives P I lent
           (rw (free, d, l))
-          (rw free (sym (take-all (count I) starts (omega (arith, m .starts-size, u .lists .outline .even))) ∙ m .starts-front))
-          (rw free (c ∙ rw (s, m .front, m .size, m .place-is)))
+          (rw free (laid-starts (u .lists .outline) (m .lists)))
+          (rw free (laid-postings (u .lists .outline) (m .lists) (rw s at c)))
           (rw free (sym (take-append-drop (f .report) r) ∙ rw (m .report-front, m .report-rest, m .line-is)))

@@ -1,7 +1,8 @@
 -- What a repair answers, and what it leaves in the tables that it was lent.
-use Prim.Native.Nat.{ℕ, zero, suc, _-_}
-use mathlib.Core.List.{List, [], _∷_, _++_}
-use lib.ListN.{length, drop, replicate}
+use Prim.Native.Nat.{ℕ, zero, suc}
+use mathlib.Core.List.{List, [], _∷_}
+use lib.ListN.{length}
+use Rattle.laws.specs.Lent.{kept-or, filled, over}
 use Rattle.plant.specs.Plant.{Plant}
 use Rattle.index.specs.Index.{Index}
 use Rattle.repair.specs.Repair.{repaired, all-dropped, report-of}
@@ -19,24 +20,14 @@ abbrev pub outcome-of : Plant → Index → ℕ → Repaired
 outcome-of P I room = repaired-or (repair-refusal P I room) (length (all-dropped P I)) (length (repaired P I .postings))
 
 -- "A refusal leaves store and report untouched."
-abbrev pub kept-or : ℕ → List ℕ → List ℕ → List ℕ
-kept-or zero made before = made
-kept-or (suc n) made before = before
-
 abbrev pub starts-after : Plant → Index → ℕ → List ℕ
 starts-after P I room = kept-or (repair-refusal P I room) (repaired P I .starts) (I .starts)
 
 -- "Freed posting entries at the end become 0"
-abbrev pub freed : List ℕ → ℕ → List ℕ
-freed made size = made ++ replicate (size - length made) 0
-
 abbrev pub postings-after : Plant → Index → ℕ → List ℕ
-postings-after P I room = kept-or (repair-refusal P I room) (freed (repaired P I .postings) (length (I .postings))) (I .postings)
+postings-after P I room = kept-or (repair-refusal P I room) (filled (length (I .postings)) (repaired P I .postings)) (I .postings)
 
 -- "report entries past the dropped postings keep their contents"
-abbrev pub over : List ℕ → List ℕ → List ℕ
-over made before = made ++ drop (length made) before
-
 abbrev pub report-after : Plant → Index → List ℕ → List ℕ
 report-after P I report = kept-or (repair-refusal P I (length report)) (over (report-of P I) report) report
 

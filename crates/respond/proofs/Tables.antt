@@ -4,6 +4,7 @@ use mathlib.Core.Path.{_≡_, ap}
 use mathlib.Core.List.{List}
 use native.Mathlib.Omega.{arith}
 use lib.ListN.{length, take}
+use Rattle.laws.specs.Lent.{filled}
 use Rattle.plant.specs.Plant.{plant}
 use Rattle.plant.proofs.Forest as plants
 use Rattle.index.specs.Index.{index}
@@ -11,7 +12,7 @@ use Rattle.index.proofs.Accepted as indexes
 use Rattle.text.specs.Reading.{made}
 use Rattle.plant_text.specs.declared.Room.{Room}
 use Rattle.plant_text.specs.declared.Outcome.the-variants as outcome
-use Rattle.plant_text.specs.PlantText.{State, read-plant, outcome-of, kept, filled}
+use Rattle.plant_text.specs.PlantText.{State, read-plant, outcome-of, kept}
 use Rattle.accepted_text.proofs.Accepted.{Within, passes}
 use Rattle.accepted_text.proofs.Made.{is-made, cut, fits}
 use Rattle.respond.specs.Respond.{program-room}

@@ -1,5 +1,5 @@
 -- At each line of a text the tables that the whole text makes tell the form that is due: so no other text makes them.
-use Prim.Native.Nat.{ℕ, _+_, _-_, _*_, _%_, _≤_, _<_}
+use Prim.Native.Nat.{ℕ, _+_, _-_, _≤_, _<_}
 use mathlib.Core.Path.{_≡_, refl, sym, _∙_, subst}
 use mathlib.Core.Bool.{Bool, true, false, cond, true≢false}
 use mathlib.Core.List.{List, [], _∷_, _++_}
@@ -11,10 +11,10 @@ use Rattle.laws.specs.Tables.{entry}
 use Rattle.laws.proofs.Tests.{flags}
 use Rattle.laws.proofs.Cases.{by-order}
 use Rattle.plant.specs.Plant.{Plant, size}
-use Rattle.index.specs.Postings.{shared}
+use Rattle.index.specs.Postings.{posting}
 use Rattle.index.specs.Index.{Index, index, count}
-use Rattle.index.proofs.Growing.{device-of}
-use Rattle.plant_text.specs.PlantText.{Stage, start, devices, terms, postings, closed, State, nothing, line-refusal, next, posting}
+use Rattle.index.proofs.Lists.{device-of, shared-of}
+use Rattle.plant_text.specs.PlantText.{Stage, start, devices, terms, postings, closed, State, nothing, line-refusal, next}
 use Rattle.plant_text.specs.declared.Room.{Room}
 use Rattle.accepted_text.proofs.Accepted.{Passed, passed}
 use Rattle.text.specs.declared.Form.{Form}
@@ -103,11 +103,6 @@ coded-more l v b h i =
 device-due : (P : Plant) (I : Index) (v n : ℕ) (A ds : List ℕ) → Kept A (P .last) (n + 1) ds n → n + 1 ≤ size P → getD (P .level) n 0 ≡ v → with-number device-line v ≡ due-device P I n ds
 device-due P I v n A [] k l e = let t : ltb n (size P) ≡ true = omega flags in rw (t, e)
 device-due P I v n A (d ∷ ds) k l e = let t : ltb n (entry (P .last) d) ≡ true = let x = k .0 in omega flags in rw (t, e)
-
--- whether a posting is shared
-shared-of : (d : ℕ) (s : Bool) → shared (posting d s) ≡ s
-shared-of d true = let e : (2 * d + 1) % 2 ≡ 1 = omega arith in rw e
-shared-of d false = let e : (2 * d) % 2 ≡ 0 = omega arith in rw e
 
 module _ (ds : List ℕ) (P : Plant) (I : Index) where
   at-plant : Inv start ds P I → Does start ds P I (plain plant-line)

@@ -14,12 +14,12 @@ use Rattle.laws.proofs.Tests.{tests, flags}
 use Rattle.laws.proofs.Cases.{by-order, either}
 use Rattle.laws.proofs.Search.{none-any, any-none}
 use Rattle.plant.specs.Plant.{Plant, plant, size}
-use Rattle.index.specs.Postings.{device, shared, misplaced, shadowed, redundant}
+use Rattle.index.specs.Postings.{posting, device, shared, misplaced, shadowed, redundant}
 use Rattle.index.specs.Index.{Index, index, count, list, tables-refusal}
 use Rattle.index.proofs.Lists.{ranged, rises}
 use Rattle.index.proofs.Accepted.{accepted, accepted-outline, accepted-list}
 use Rattle.index.proofs.Begins.{begin, start-is, list-is, ordered, first-begin, last-begin, begin-within}
-use Rattle.plant_text.specs.PlantText.{Stage, devices, terms, postings, closed, State, line-refusal, next, posting}
+use Rattle.plant_text.specs.PlantText.{Stage, devices, terms, postings, closed, State, line-refusal, next}
 use Rattle.plant_text.specs.declared.Room.{Room}
 use Rattle.text.specs.Forms.{plain, with-number}
 use Rattle.plant_text.specs.Form.{term-line, own-line, all-line, close-line}

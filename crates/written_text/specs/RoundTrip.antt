@@ -3,9 +3,10 @@ use Prim.Native.Nat.{ℕ, _≤_}
 use mathlib.Core.Path.{_≡_}
 use mathlib.Core.List.{List}
 use lib.ListN.{length, take}
+use Rattle.laws.specs.Lent.{filled}
 use Rattle.plant.specs.Plant.{Plant, plant, size}
 use Rattle.index.specs.Index.{Index, index, count}
-use Rattle.plant_text.specs.PlantText.{outcome-after, plant-after, index-after, filled}
+use Rattle.plant_text.specs.PlantText.{outcome-after, plant-after, index-after}
 use Rattle.plant_text.specs.declared.Outcome.the-variants as outcome
 use Rattle.written_text.specs.Text.{text-of}
 use Rattle.written_text.specs.Refusals.{write-refusal}

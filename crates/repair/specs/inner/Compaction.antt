@@ -6,13 +6,13 @@ use mathlib.Core.List.{List, [], _++_}
 use lib.Dec.{eqb}
 use lib.ListN.{length, getD, take, drop, set}
 use lib.Seq.{slice}
-use Rattle.laws.specs.Joined.{joined, tabled}
+use Rattle.laws.specs.Joined.{joined}
 use Rattle.plant.specs.Plant.{plant}
 use Rattle.index.specs.Index.{Index}
 use Rattle.index.specs.Postings.{device}
 use Rattle.repair.specs.Kept.{kept, dropped}
-use Rattle.repair.specs.Repair.{dropped-in, reported, report-in}
-use Rattle.repair.specs.inner.Counting.{kept-of}
+use Rattle.index.specs.inner.Laying.{ListsLaid}
+use Rattle.repair.specs.Repair.{kept-in, dropped-in, reported, report-in}
 use Rattle.repair.specs.declared.compact.Filled.{Filled}
 
 -- what is dropped of the first k lists, and the report on them
@@ -53,12 +53,7 @@ pub record Compacting (last p₀ r₀ : List ℕ) (base end term to at i : ℕ) 
 
 -- the first k lists are compacted: what is kept is at the front of the postings, and what is dropped at that of the report
 pub record Compacted (last : List ℕ) (I : Index) (r₀ : List ℕ) (k : ℕ) (starts p r : List ℕ) (f : Filled) : Type 0 where
-  pub place-is : f .postings ≡ length (kept-of last I k)
-  pub starts-size : length starts ≡ length (I .starts)
-  pub starts-front : take k starts ≡ tabled (λ i. length (kept-of last I (i - 1))) k
-  pub starts-rest : drop k starts ≡ drop k (I .starts)
-  pub size : length p ≡ length (I .postings)
-  pub front : take (f .postings) p ≡ kept-of last I k
+  pub lists : ListsLaid I (kept-in (plant last [] []) I) k starts p (f .postings)
   pub line-is : f .report ≡ length (reports-of last I k)
   pub report-size : length r ≡ length r₀
   pub report-front : take (f .report) r ≡ reports-of last I k

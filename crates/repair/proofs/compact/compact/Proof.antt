@@ -55,7 +55,7 @@ compact-spec =
     (λ c. search needs)
     (λ c. search needs)
     loop-again
-    (λ c. c .before .loop .inv .done .starts-size)
-    (λ c. c .before .loop .inv .done .size)
+    (λ c. c .before .loop .inv .done .lists .starts-size)
+    (λ c. c .before .loop .inv .done .lists .size)
     (λ c. c .before .loop .inv .done .report-size)
     (λ c. let p = start (c .before) .pre in round-end (p .0) (p .1) (c .before .loop .inv) (omega arith)))

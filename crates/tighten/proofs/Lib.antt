@@ -1,0 +1,14 @@
+-- Which devices have a posting in a tight list, and what is promised of it; the laws of the code that makes it.
+mod Branches
+mod Carriers
+mod Smallest
+pub mod Theorems
+mod Leading
+mod Tiling
+mod Fronts
+mod Backward
+mod Moving
+mod Parts
+mod Rounds
+mod Outcomes
+pub mod Example

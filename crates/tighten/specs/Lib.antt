@@ -1,0 +1,5 @@
+pub mod Tight
+pub mod Tightened
+pub mod Outcome
+pub mod Promises
+pub mod inner
