@@ -1,8 +1,9 @@
 //! Times the proved search beside plain Rust and other ways to the same listing, and writes docs/BENCHMARK.md.
 //!
-//! `bench` times; `bench quick` shows rough figures and writes nothing, `bench read` those of reading and writing alone, and
-//! `bench repair` those of repairing; `bench count common`, `bench count any`, `bench count read`, `bench count write` and
-//! `bench count repair` make each call a fixed number of times, for callgrind to count instructions.
+//! `bench` times; `bench quick` shows rough figures and writes nothing, `bench read` those of reading and writing alone,
+//! `bench repair` those of repairing and `bench tighten` those of tightening; `bench count common`, `bench count any`,
+//! `bench count read`, `bench count write`, `bench count repair` and `bench count tighten` make each call a fixed number of times,
+//! for callgrind to count instructions.
 #[allow(dead_code)]
 #[path = "../../tests/outside/src/ffi.rs"]
 mod ffi;
@@ -26,6 +27,8 @@ mod respond;
 mod roaring;
 mod sqlite;
 mod texts;
+mod tightener;
+mod tightening;
 mod time;
 mod unshared;
 mod ways;
@@ -34,8 +37,10 @@ mod writing;
 use paper::{Answer, Query, Tables};
 use plants::{Kind, Size, KINDS};
 use random::Random;
+use reading::{Pair, Reading};
 use repairing::Repairing;
 use std::hint::black_box;
+use tightening::{Saved, Tightening};
 use time::{clock, seconds, Least, Rounds, Times};
 use ways::{checks_agree, few, proved_steps, Checks, Moves, Taken, Ways};
 use writing::Writing;
@@ -44,6 +49,19 @@ const MISSION: Size = Size(1_024, 256, 4_096);
 /// With nearly as many postings as a text has room for.
 const LONGEST: Size = Size(1_024, 256, 5_140);
 const LIMITS: Size = Size(65_535, 8_192, 1_048_576);
+
+/// All that the page shows.
+pub struct Page {
+    pub measured: [Measured; 2],
+    pub reading: Reading,
+    pub printing: Pair,
+    pub written: [Writing; 2],
+    pub repaired: Vec<Repairing>,
+    pub tightened: Vec<Tightening>,
+    pub saved: [Saved; 2],
+    pub growth: Vec<Growth>,
+    pub skips: Vec<Skip>,
+}
 
 /// What one plant gave; the checks in seconds.
 pub struct Measured {
@@ -212,6 +230,19 @@ fn repaired(readings: usize) -> Vec<Repairing> {
     mission.into_iter().chain(repairing::measure(["the limits", "the limits, clean"], LIMITS, &limits)).collect()
 }
 
+/// Tightening at both sizes, of branches noted device by device and of tight lists; as many plants as in repairing.
+fn tightened(readings: usize) -> Vec<Tightening> {
+    let mission = tightening::Effort { plants: 16, rounds: 10 * readings, spoilt: 100 };
+    let limits = tightening::Effort { plants: 2, rounds: readings / 2, spoilt: 24 };
+    let mission = tightening::measure(["the mission's size", "the mission's size, tight"], MISSION, &mission);
+    mission.into_iter().chain(tightening::measure(["the limits", "the limits, tight"], LIMITS, &limits)).collect()
+}
+
+/// What tightening saves at both sizes.
+fn saved() -> [Saved; 2] {
+    [tightening::saved("the mission's size", MISSION, 40), tightening::saved("the limits", LIMITS, 12)]
+}
+
 fn main() {
     let words: Vec<String> = std::env::args().skip(1).collect();
     let words: Vec<&str> = words.iter().map(String::as_str).collect();
@@ -221,7 +252,9 @@ fn main() {
         ["count", "read"] => return reading::count(MISSION),
         ["count", "write"] => return writing::count(MISSION),
         ["count", "repair"] => return repairing::count(MISSION),
+        ["count", "tighten"] => return tightening::count(MISSION),
         ["repair"] => return print!("{}", report::repairing(&repaired(60))),
+        ["tighten"] => return print!("{}", report::tightening(&tightened(60), &saved())),
         ["read"] => {
             let read = report::reading(MISSION, &reading::measure(MISSION, 60), reading::printing());
             return print!("{read}{}", report::writing(&written(60)));
@@ -233,12 +266,19 @@ fn main() {
             let limits = Effort { queries: 12, passes: 5, whole: 2, steps: 30 };
             (Effort { queries: 40, passes: 10, whole: 25, steps: 40 }, limits, 200)
         }
-        _ => panic!("usage: bench [quick | read | repair | count common | count any | count read | count write | count repair]"),
+        _ => panic!("usage: bench [quick | read | repair | tighten | count common|any|read|write|repair|tighten]"),
     };
-    let measured = [measure("the mission's size", MISSION, mission), measure("the limits", LIMITS, limits)];
-    let reading = reading::measure(MISSION, readings);
-    let (written, repaired) = (written(readings), repaired(readings));
-    let text = report::whole(&measured, &reading, reading::printing(), &written, &repaired, &growth(), &skips());
+    let text = report::whole(&Page {
+        measured: [measure("the mission's size", MISSION, mission), measure("the limits", LIMITS, limits)],
+        reading: reading::measure(MISSION, readings),
+        written: written(readings),
+        repaired: repaired(readings),
+        tightened: tightened(readings),
+        saved: saved(),
+        printing: reading::printing(),
+        growth: growth(),
+        skips: skips(),
+    });
     print!("{text}");
     if words.is_empty() {
         std::fs::write(concat!(env!("CARGO_MANIFEST_DIR"), "/../docs/BENCHMARK.md"), &text).unwrap();

@@ -22,18 +22,62 @@ fn forest(r: &mut Random, n: usize) -> Tables {
     t
 }
 
-/// A list of about `length` postings spread over the plant; three in ten are shared.
+/// Makes a list of about `length` postings, and not more.
+type MakeList = fn(&mut Random, &Tables, usize) -> Vec<u32>;
+
+/// Postings spread over the plant; three in ten are shared.
 fn list(r: &mut Random, t: &Tables, length: usize) -> Vec<u32> {
     let gap = (t.size() / length.max(1)).max(1);
     let mut list = vec![];
     let mut d = r.between(1, 2 * gap);
     while d <= t.size() && list.len() < length {
-        let shared = r.below(10) < 3;
-        list.push(2 * d as u32 + shared as u32);
-        let end = if shared { t.last[d - 1] as usize } else { d };
+        d = single(r, t, &mut list, d) + r.between(1, 2 * gap - 1);
+    }
+    list
+}
+
+/// The same, and one time in nine a branch noted device by device, which makes nearly as many postings as the other eight.
+fn noted_list(r: &mut Random, t: &Tables, length: usize) -> Vec<u32> {
+    let gap = (2 * t.size() / length.max(1)).max(1);
+    let mut list = vec![];
+    let mut d = r.between(1, 2 * gap);
+    while d <= t.size() && list.len() < length {
+        let top = if r.one_in(9) { next_top(t, d, length - list.len()) } else { None };
+        let end = match top {
+            Some(top) => by_device(r, t, &mut list, top),
+            None => single(r, t, &mut list, d),
+        };
         d = end + r.between(1, 2 * gap - 1);
     }
     list
+}
+
+/// The first device from d on whose branch has 3 to 40 devices, and not more than there is room for.
+fn next_top(t: &Tables, d: usize, room: usize) -> Option<usize> {
+    let sizes = 3..=room.min(40);
+    if sizes.is_empty() {
+        return None;
+    }
+    (d..=t.size()).find(|&top| sizes.contains(&(t.last[top - 1] as usize - top + 1)))
+}
+
+/// Puts a posting at d after the others; the last device that it carries to.
+fn single(r: &mut Random, t: &Tables, list: &mut Vec<u32>, d: usize) -> usize {
+    let shared = r.below(10) < 3;
+    list.push(2 * d as u32 + shared as u32);
+    if shared {
+        t.last[d - 1] as usize
+    } else {
+        d
+    }
+}
+
+/// Puts a private posting at each device of a branch after the others, one time in four but for one device; the branch's last.
+fn by_device(r: &mut Random, t: &Tables, list: &mut Vec<u32>, top: usize) -> usize {
+    let end = t.last[top - 1] as usize;
+    let without = if r.one_in(4) { r.between(top, end) } else { 0 };
+    list.extend((top..=end).filter(|&d| d != without).map(|d| 2 * d as u32));
+    end
 }
 
 /// Puts one private posting into the list, where the device is free.
@@ -50,7 +94,16 @@ fn put(r: &mut Random, t: &Tables, list: &mut Vec<u32>) -> usize {
 }
 
 /// A sound plant of exactly this size. A few lists are long and most are short, as terms are in any collection.
-pub fn plant(r: &mut Random, Size(n, terms, postings): Size) -> Tables {
+pub fn plant(r: &mut Random, size: Size) -> Tables {
+    plant_with(r, size, list)
+}
+
+/// The same, where a third of the postings at the mission's size and half of them at the limits note branches device by device.
+pub fn noted(r: &mut Random, size: Size) -> Tables {
+    plant_with(r, size, noted_list)
+}
+
+fn plant_with(r: &mut Random, Size(n, terms, postings): Size, list: MakeList) -> Tables {
     let mut t = forest(r, n);
     let weight = |k: usize| 1.0 / ((k + 1) as f64).powf(0.7);
     let total: f64 = (0..terms).map(weight).sum();

@@ -2,12 +2,13 @@
 use crate::plants::Size;
 use crate::reading::{Pair, Reading};
 use crate::repairing::Repairing;
+use crate::tightening::{self, Saved, Tightening};
 use crate::time::Times;
 use crate::writing::Writing;
-use crate::{Growth, Measured, Row, Skip, MISSION};
+use crate::{Growth, Measured, Page, Row, Skip, MISSION};
 use std::fmt::Write;
 
-/// The most that a call, a check, a reading, a writing or a repair may take, in times of the plain one.
+/// The most that a call, a check, a reading, a writing, a repair or a tightening may take, in times of the plain one.
 const MOST: f64 = 1.1;
 /// The most that a check may take, in times of the plain one in two passes.
 const MOST_OF_TWO_PASSES: f64 = 0.75;
@@ -151,9 +152,12 @@ fn growing(growth: &[Growth], skips: &[Skip]) -> String {
     out
 }
 
+fn percent(a: usize, b: usize) -> String {
+    format!("{:.0}%", 100.0 * a as f64 / b as f64)
+}
+
 /// Document 000's figures: what sharing saves.
 fn sharing(m: &Measured) -> String {
-    let percent = |a: usize, b: usize| format!("{:.0}%", 100.0 * a as f64 / b as f64);
     let mut out = format!("\n### Sharing at {}: {}\n", m.name, size(m.size));
     let kept = percent(m.size.2, m.unshared_postings);
     writeln!(out, "\nUnshared there are {} postings: shared are **{kept}** of them.", commas(m.unshared_postings)).unwrap();
@@ -251,6 +255,44 @@ fn repairing_goals(repaired: &[Repairing]) -> String {
     out
 }
 
+/// Tightening, proved against plain, and what it saves.
+pub fn tightening(tightened: &[Tightening], saved: &[Saved]) -> String {
+    let mut out = String::from("\n## Tightening\n\n");
+    out += "Branches of 3 to 40 devices were noted device by device, a quarter of them but for one device. In tight lists there ";
+    out += "is nothing to gather.\n";
+    out += &head(&["", "postings", "tightened", "plain µs", "proved µs", "proved / plain"]);
+    for Tightening { name, before, after, tighten: Pair { plain, proved } } in tightened {
+        let times = format!("{} | {} | **{:.2}**", micro(*plain), micro(*proved), proved / plain);
+        writeln!(out, "| {name} | {} | {} | {times} |", commas(*before), commas(*after)).unwrap();
+    }
+    saved.iter().for_each(|s| out += &savings(s));
+    out
+}
+
+/// What tightening saves: postings, and moves.
+fn savings(s: &Saved) -> String {
+    let mut out = format!("\n### What tightening saves at {}: {}\n", s.name, size(s.size));
+    let kept = percent(s.after, s.size.2);
+    writeln!(out, "\nTightened there are {} postings: **{kept}** of those before.", commas(s.after)).unwrap();
+    out += &head(&["query", "terms", "queries", "devices listed", "moves, before", "moves, tightened", "tightened of before"]);
+    for tightening::Row { kind, common, queries, listed, before, after } in &s.rows {
+        let numbers = [*queries, *listed as usize, *before as usize, *after as usize].map(commas).join(" | ");
+        let ratio = percent(*after as usize, *before as usize);
+        writeln!(out, "| {} | {} | {numbers} | {ratio} |", kind.0, terms(*common)).unwrap();
+    }
+    out
+}
+
+fn tightening_goals(tightened: &[Tightening]) -> String {
+    let mut out = String::from("\n### Goals for tightening\n");
+    out += &head(&["tightening, proved / plain", "postings saved", "ratio", "at most", "goal"]);
+    for Tightening { name, before, after, tighten: Pair { plain, proved } } in tightened {
+        let ratio = proved / plain;
+        writeln!(out, "| {name} | {} | {ratio:.2} | {MOST:.2} | {} |", commas(before - after), met(ratio, MOST)).unwrap();
+    }
+    out
+}
+
 fn tables_grow(growth: &[Growth]) -> String {
     let mut out = String::from("\n## The check grows with the tables\n");
     out += &head(&["tables", "plain µs", "proved µs", "proved / plain", "proved, ns for each device and posting"]);
@@ -274,25 +316,23 @@ fn moves_skip(skips: &[Skip]) -> String {
     out
 }
 
-pub fn whole(
-    measured: &[Measured], read: &Reading, printing: Pair, written: &[Writing], repaired: &[Repairing], growth: &[Growth],
-    skips: &[Skip],
-) -> String {
-    let all = |each: fn(&Measured) -> String| measured.iter().map(each).collect::<String>();
+pub fn whole(page: &Page) -> String {
+    let all = |each: fn(&Measured) -> String| page.measured.iter().map(each).collect::<String>();
     let mut out = String::from(include_str!("../before.md"));
     out += &all(figures);
-    out += &reading(MISSION, read, printing);
-    out += &writing(written);
-    out += &repairing(repaired);
-    out += &tables_grow(growth);
-    out += &moves_skip(skips);
+    out += &reading(MISSION, &page.reading, page.printing);
+    out += &writing(&page.written);
+    out += &repairing(&page.repaired);
+    out += &tightening(&page.tightened, &page.saved);
+    out += &tables_grow(&page.growth);
+    out += &moves_skip(&page.skips);
     out += "\n## Sharing: the figures of document 000\n\n";
     out += "Unshared, every device that carries a term has a posting of its own, and the moves are those of an ordinary zig-zag ";
     out += "join. Each row has the moves of all its queries together.\n";
     out += &all(sharing);
     out += "\n";
-    let mut goals = all(goals) + &reading_goal(read) + &writing_goals(written);
-    goals += &(repairing_goals(repaired) + &growing(growth, skips));
+    let mut goals = all(goals) + &reading_goal(&page.reading) + &writing_goals(&page.written);
+    goals += &(repairing_goals(&page.repaired) + &tightening_goals(&page.tightened) + &growing(&page.growth, &page.skips));
     out += &include_str!("../after.md").replace("{goals}", goals.trim());
     out
 }

@@ -1,17 +1,16 @@
--- The tight list when a device and what its posting carries to are put before a list: the posting at its front, and what is left of the
--- tight list of the latter.
+-- The first posting of a tight list, and what comes after it.
 use Prim.Native.Nat.{ℕ, _+_, _-_, _≤_, _<_}
 use mathlib.Core.Path.{_≡_, sym, _∙_, ap}
 use mathlib.Core.Bool.{Bool, true, false, _&&_, not, true≢false}
 use mathlib.Core.List.{List, [], _∷_}
 use native.Mathlib.Omega.{arith}
 use lib.Dec.{eqb}
-use lib.ListN.{length, drop}
+use lib.ListN.{length}
 use Rattle.laws.specs.Joined.{joined}
 use Rattle.laws.specs.Tables.{entry}
 use Rattle.laws.proofs.Tests.{tests, refuted}
 use Rattle.laws.proofs.Cases.{by-order, either}
-use Rattle.laws.proofs.Joined.{any-same, joined-same, joined-last, joined-still, joined-upto, joined-rest}
+use Rattle.laws.proofs.Joined.{any-same, joined-same, joined-last, joined-still, joined-upto}
 use Rattle.plant.specs.Plant.{holds}
 use Rattle.tighten.specs.Tight.{whole, inside, postings-at, tight}
 use Rattle.tighten.specs.inner.Branches.{Forest}
@@ -41,64 +40,69 @@ module _ (last : List ℕ) (has has′ : ℕ → Bool) (m : ℕ) (same : (e : �
     pub at-same : (e : ℕ) → m < e → postings-at last has e ≡ postings-at last has′ e
     at-same e u = rw (whole-same e u, inside-same e u, same e u)
 
--- device d and the devices up to m now have the term too: those of its branch where that is whole, else d alone
-pub record Put-before (last : List ℕ) (has has′ : ℕ → Bool) (d m : ℕ) : Type 0 where
+-- devices before d and d itself: none has the term but d, and those of its branch, up to m, where that is whole; beyond m, what `rest` has
+pub record Front (last : List ℕ) (has rest : ℕ → Bool) (d m : ℕ) : Type 0 where
   pub first : 1 ≤ d
   pub upto : d ≤ length last
-  pub later : (e : ℕ) → has e ≡ true → d < e
-  pub lower : (e : ℕ) → e < d → has′ e ≡ false
-  pub own : has′ d ≡ true
-  pub beyond : (e : ℕ) → m < e → has e ≡ has′ e
-  pub all : whole last has′ d ≡ true → m ≡ entry last d
-  pub alone : whole last has′ d ≡ false → m ≡ d
+  pub lower : (e : ℕ) → e < d → has e ≡ false
+  pub own : has d ≡ true
+  pub all : whole last has d ≡ true → m ≡ entry last d
+  pub alone : whole last has d ≡ false → m ≡ d
+  pub later : (e : ℕ) → rest e ≡ true → m < e
+  pub beyond : (e : ℕ) → m < e → has e ≡ rest e
 
-module _ {last : List ℕ} (F : Forest last) {has has′ : ℕ → Bool} {d m : ℕ} (s : Put-before last has has′ d m) where
-  whole-ends : (x : ℕ) → d ≤ x → x ≤ m → (whole last has′ d ≡ false → x ≡ d → ⊥) → entry last x ≤ m
-  whole-ends x a b c = either (whole last has′ d)
-      (λ w. let e = s .all w in omega (arith, F .nested d x (s .first) (s .upto) a (omega arith)))
-      (λ w. let e = s .alone w in absurd (c w (omega arith)))
-
-  at-beyond : (e : ℕ) → m < e → postings-at last has e ≡ postings-at last has′ e
-  at-beyond = at-same last has has′ m (s .beyond)
-      (λ x a b c w. let l = s .later x (whole-own F has x (a, c) w) in whole-ends x (omega arith) b (λ v z. omega arith))
-      (λ x a b c w. by-order x d
-      (λ u. absurd (true≢false (sym (whole-own F has′ x (a, c) w) ∙ s .lower x u)))
-      (λ u. whole-ends x u b (λ v z. true≢false (sym (rw z at w) ∙ v))))
-
+module _ {last : List ℕ} (F : Forest last) {has rest : ℕ → Bool} {d m : ℕ} (s : Front last has rest d m) where
   reached : (d ≤ m) × (m ≤ length last)
-  reached = either (whole last has′ d)
+  reached = either (whole last has d)
       (λ w. let e = s .all w in omega (arith, F .own d (s .first) (s .upto), F .inner d (s .first) (s .upto)))
       (λ w. let e = s .alone w in let u = s .upto in omega arith)
 
-  -- d has a posting, and between d and m there is none
-  own-posted : posted last has′ d ≡ true
-  own-posted = either (whole last has′ d)
-      (λ w. rw (w, inside-none last has′ d (λ e a b u v q. true≢false (sym (whole-own F has′ e (a, b) q) ∙ s .lower e u))))
+  -- no whole branch goes from m or before on past m
+  ends : (x : ℕ) → 1 ≤ x → x ≤ m → x ≤ length last → whole last has x ≡ true → entry last x ≤ m
+  ends x a b c w =
+      by-order x d (λ u. absurd (true≢false (sym (whole-own F has x (a, c) w) ∙ s .lower x u)))
+      (λ u. either (whole last has d)
+      (λ v. let e = s .all v in omega (arith, F .nested d x (s .first) (s .upto) u (omega arith)))
+      (λ v. let e = s .alone v in let z : x ≡ d = omega arith in absurd (true≢false (sym (rw z at w) ∙ v))))
+
+  at-beyond : (e : ℕ) → m < e → postings-at last has e ≡ postings-at last rest e
+  at-beyond = at-same last has rest m (s .beyond) ends (λ x a b c w. let l = s .later x (whole-own F rest x (a, c) w) in absurd (omega arith))
+
+  -- d has a posting, before d and from d to m there is none, and up to m none of the rest
+  own-posted : posted last has d ≡ true
+  own-posted = either (whole last has d)
+      (λ w. rw (w, inside-none last has d (λ e a b u v q. true≢false (sym (whole-own F has e (a, b) q) ∙ s .lower e u))))
       (λ w. rw w (s .own))
 
-  none-between : (e : ℕ) → d < e → e ≤ m → postings-at last has′ e ≡ []
-  none-between e u v = at-none last has′ e (refuted _ (λ p. either (whole last has′ d)
-      (λ w. let z = s .all w in posted-outer F has′ e d p (s .first, s .upto) (u, omega arith) w)
+  none-between : (e : ℕ) → d < e → e ≤ m → postings-at last has e ≡ []
+  none-between e u v = at-none last has e (refuted _ (λ p. either (whole last has d)
+      (λ w. let z = s .all w in posted-outer F has e d p (s .first, s .upto) (u, omega arith) w)
       (λ w. let z = s .alone w in omega arith)))
 
-  none-lower : (e : ℕ) → 0 < e → e ≤ d - 1 → postings-at last has′ e ≡ []
-  none-lower e u v = at-none last has′ e (lacks-none F has′ e (u, omega (arith, s .upto)) (s .lower e (omega arith)))
+  none-lower : (e : ℕ) → 0 < e → e ≤ d - 1 → postings-at last has e ≡ []
+  none-lower e u v = at-none last has e (lacks-none F has e (u, omega (arith, s .upto)) (s .lower e (omega arith)))
 
-  front : joined (postings-at last has′) m ≡ posting-at last has′ d ∷ []
+  none-rest : (e : ℕ) → 0 < e → e ≤ m → postings-at last rest e ≡ []
+  none-rest e u v = at-none last rest e (lacks-none F rest e (u, omega (arith, reached)) (refuted _ (λ p. omega (arith, s .later e p))))
+
+  front : joined (postings-at last has) m ≡ posting-at last has d ∷ []
   unfolding joined
   front =
       let l = s .first in
       let r = reached in
-      joined-still (postings-at last has′) d m (r .0) none-between
-      ∙ joined-last (postings-at last has′) d l
-      ∙ rw (at-posted last has′ d own-posted, joined-still (postings-at last has′) 0 (d - 1) (omega arith) none-lower)
+      joined-still (postings-at last has) d m (r .0) none-between
+      ∙ joined-last (postings-at last has) d l
+      ∙ rw (at-posted last has d own-posted, joined-still (postings-at last has) 0 (d - 1) (omega arith) none-lower)
 
-  pub leading : tight last has′ ≡ posting-at last has′ d ∷ drop (length (joined (postings-at last has) m)) (tight last has)
+  -- so the tight list is d's posting, and then the tight list of the rest
+  pub leading : tight last has ≡ posting-at last has d ∷ tight last rest
+  unfolding joined
   leading =
       let r = reached in
-      joined-upto (postings-at last has′) m (length last) (r .1)
+      joined-upto (postings-at last has) m (length last) (r .1)
       ∙ rw (
         front,
-        joined-rest (postings-at last has) m (length last) (r .1),
-        joined-same (λ e. postings-at last has (m + e)) (λ e. postings-at last has′ (m + e)) (length last - m) (λ e a b. at-beyond (m + e) (omega arith)),
+        joined-same (λ e. postings-at last has (m + e)) (λ e. postings-at last rest (m + e)) (length last - m) (λ e a b. at-beyond (m + e) (omega arith)),
+        joined-upto (postings-at last rest) m (length last) (r .1),
+        joined-still (postings-at last rest) 0 m (omega arith) none-rest,
       )

@@ -4,11 +4,9 @@ mod Carriers
 mod Smallest
 pub mod Theorems
 mod Leading
-mod Tiling
-mod Fronts
-mod Backward
-mod Moving
-mod Parts
+mod Apart
+mod Gathering
+mod Course
 mod Rounds
 mod Outcomes
 pub mod Example

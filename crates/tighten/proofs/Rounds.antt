@@ -6,12 +6,12 @@ use native.Mathlib.Omega.{arith}
 use lib.ListN.{length, getD, set}
 use lib.Seq.{slice}
 use Rattle.index.specs.Index.{Index, count, list, most-postings}
-use Rattle.index.specs.inner.Lists.{SoundList}
 use Rattle.index.specs.inner.Laying.{ListPut, ListsLaid}
 use Rattle.index.proofs.Laying.{Laying, lay-few, lay-starts, lay-end, lay-bounds, lay-list, lay-turn}
 use Rattle.tighten.specs.Tight.{tight}
 use Rattle.tighten.specs.inner.Branches.{carried, tight-of, Forest, SoundLists}
-use Rattle.tighten.specs.inner.List.{Bounds}
+use Rattle.tighten.specs.inner.List.{Apart, Bounds}
+use Rattle.tighten.proofs.Apart.{sound-apart}
 use Rattle.tighten.proofs.Theorems.{no-longer}
 
 module _ {last : List ℕ} {I : Index} {starts p : List ℕ} {place start k : ℕ} (F : Forest last) (S : SoundLists last I)
@@ -33,8 +33,8 @@ module _ {last : List ℕ} {I : Index} {starts p : List ℕ} {place start k : �
     pub round-bounds : Bounds p start end place
     round-bounds = let b = lay-bounds (S .outline) (no-longer F I) t u e in record { lower = b .0; order = b .1; within = b .2 }
 
-    pub round-sound : SoundList last (slice start end p)
-    round-sound = rw next-list (S .each (k + 1) (omega arith) (omega arith))
+    pub round-apart : Apart last (slice start end p)
+    round-apart = rw next-list (sound-apart (S .each (k + 1) (omega arith) (omega arith)))
 
     pub round-turn : {v place′ : ℕ} {starts′ p′ : List ℕ} → v ≡ place → starts′ ≡ set starts k v
         → ListPut p end place (tight last (carried last (slice start end p))) p′ place′ → Laying I (tight-of last I) starts′ p′ place′ end (k + 1)

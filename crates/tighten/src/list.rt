@@ -1,36 +1,56 @@
-// The tightening of one list, from its end.
+// The tightening of one list, in one pass.
+use index::reach_by;
 use integers::u16_to_usize;
 use integers::u32_to_usize;
 ghost use mathlib.Core.Path.{_≡_};
-ghost use mathlib.Core.Bool.{not};
-ghost use Prim.Native.Nat.{_≤_};
+ghost use mathlib.Core.Bool.{cond, not, _||_};
+ghost use Prim.Native.Nat.{_+_, _*_, _≤_, _<_};
+ghost use lib.Dec.{leb, eqb};
 ghost use lib.ListN.{length, getD};
+ghost use lib.Seq.{slice};
 ghost use Rattle.laws.specs.Tables.{entry};
-ghost use Rattle.index.specs.Postings.{posting, device, reach};
-ghost use Rattle.index.specs.inner.Lists.{SoundList};
-ghost use Rattle.tighten.specs.Tight.{leaf};
-ghost use Rattle.tighten.specs.inner.Branches.{Forest};
-ghost use Rattle.tighten.specs.inner.List.{After, Tiled, Leads, Ends};
+ghost use Rattle.laws.specs.inner.Entries.{IsEntry};
+ghost use Rattle.index.specs.Around.{Around};
+ghost use Rattle.index.specs.Postings.{device, reach};
+ghost use Rattle.index.specs.inner.Laying.{ListPut};
+ghost use Rattle.tighten.specs.Tight.{tight};
+ghost use Rattle.tighten.specs.inner.Branches.{carried, Forest};
+ghost use Rattle.tighten.specs.inner.List.{Apart, RunsTo, Known, Opens, Runs, Leads, Bounds};
 
-// The front of a tight list: a posting, and how many postings of the list after it it takes the place of.
+// A posting of the tight list, how many postings of the list it takes the place of, and up to where devices are known to carry the term.
 pub struct Lead {
-    posting: u32,
-    taken: usize,
+    pub posting: u32,
+    pub taken: usize,
+    pub until: usize,
+}
+
+// Postings that follow one another: how many, and up to where each device carries the term.
+pub struct Run {
+    pub count: usize,
+    pub until: usize,
+}
+
+// The device of a posting.
+fn device_of(posting: u32) -> usize
+    ensures { λ r. ⌜ r ≡ device posting ⌝ }
+{
+    u32_to_usize(posting / 2)
 }
 
 // Where the branch of device d ends.
 fn end_of(last: &[u16], d: usize) -> usize
-    requires { ⌜ (1 ≤ d) × (d ≤ length (now last)) ⌝ }
+    requires { ⌜ IsEntry (now last) d ⌝ }
     ensures { λ r. ⌜ r ≡ entry (now (last .entry)) d ⌝ }
 {
     u16_to_usize(last[d - 1])
 }
 
-// The device of a posting.
-fn device_of(q: u32) -> usize
-    ensures { λ r. ⌜ r ≡ device q ⌝ }
+// The last device that a posting carries its term to.
+fn reach_of(last: &[u16], posting: u32) -> usize
+    requires { ⌜ IsEntry (now last) (device posting) ⌝ }
+    ensures { λ r. ⌜ r ≡ reach (now (last .entry)) posting ⌝ }
 {
-    u32_to_usize(q / 2)
+    reach_by(end_of(last, device_of(posting)), posting)
 }
 
 // The posting at index i, or 0 past the end.
@@ -43,80 +63,173 @@ fn posting_at(list: &[u32], i: usize) -> u32
     0
 }
 
-// The posting for the whole branch of d: private where d is a leaf.
-fn for_branch(last: &[u16], d: usize) -> u32
-    requires { ⌜ (1 ≤ d) × (d ≤ length (now last)) × (length (now last) ≤ 65_535) ⌝ }
-    ensures { λ r. ⌜ r ≡ posting d (not (leaf (now (last .entry)) d)) ⌝ }
+// A posting, private at a leaf.
+fn at_leaf(posting: u32, leaf: bool) -> u32
+    ensures { λ r. ⌜ r ≡ cond leaf (device posting * 2) posting ⌝ }
 {
-    let twice = 2 * (d as u32);
-    if end_of(last, d) == d {
-        return twice;
-    }
-    twice + 1
+    if leaf { posting / 2 * 2 } else { posting }
 }
 
-// How many postings of a tight list stand for all that d feeds; 0 where some of that does not carry the term. Goes over the children of d: each
-// must have the posting for its whole branch.
-fn tiles(last: &[u16], made: &[u32], d: usize) -> usize
-    requires { ⌜ Forest (now last) ⌝ }
-    requires { ⌜ After (now last) (now made) d d ⌝ }
-    ensures { λ r. ⌜ Tiled (now (last .entry)) (now (made .entry)) d r ⌝ }
+// How far a posting of the device after d is from a private one of d. At a leaf, further than any: a number is chosen, so that the code has no branch
+// here, which could not be guessed.
+fn next_after(leaf: bool) -> u32
+    ensures { λ r. ⌜ (r ≡ cond leaf 262_144 2) × (r ≤ 262_144) ⌝ }
 {
-    let end = end_of(last, d);
-    let mut count = 0;
-    let mut child = d + 1;
-    while child <= end {
-        if posting_at(made, count) != for_branch(last, child) {
-            return 0;
+    if leaf { 262_144 } else { 2 }
+}
+
+// Whether nothing is to be gathered at the first posting: it is shared, the next is not at the device after its own, or that is a leaf.
+fn alone(list: &[u32], posting: u32, leaf: bool) -> bool
+    requires { ⌜ posting ≤ 131_071 ⌝ }
+    ensures { λ r. ⌜ r ≡ not (eqb (device (getD (now (list .entry)) 1 0) * 2) (posting + cond leaf 262_144 2)) ⌝ }
+{
+    posting_at(list, 1) / 2 * 2 != posting + next_after(leaf)
+}
+
+// Whether a run that goes up to `until` ends there: the branch does, or the posting is not at the next device.
+fn stops(until: usize, end: usize, posting: u32) -> bool
+    requires { ⌜ until ≤ 65_535 ⌝ }
+    ensures { λ r. ⌜ r ≡ (leb end until || not (eqb (device posting) (until + 1))) ⌝ }
+{
+    if end <= until {
+        return true;
+    }
+    device_of(posting) != until + 1
+}
+
+// The run from the first posting on, of device d alone, up to the end of d's branch.
+fn run_of(last: &[u16], list: &[u32], d: usize, end: usize) -> Run
+    requires { ⌜ Forest (now last) ⌝ }
+    requires { ⌜ Apart (now last) (now list) ⌝ }
+    requires { ⌜ Opens (now last) (now list) d end ⌝ }
+    ensures { λ r. ⌜ Runs (now (last .entry)) (now (list .entry)) end r ⌝ }
+{
+    let mut until = d;
+    let mut count = 1;
+    while count < list.len() {
+        let posting = list[count];
+        if stops(until, end, posting) {
+            return Run { count, until };
         }
+        until = reach_of(last, posting);
         count += 1;
-        child = end_of(last, child) + 1;
     }
-    count
+    Run { count, until }
 }
 
-// The front of the tight list of q and what stands after it, where `made` is the latter's.
-fn lead_of(last: &[u16], made: &[u32], q: u32) -> Lead
-    requires { ⌜ Forest (now last) ⌝ }
-    requires { ⌜ After (now last) (now made) (device q) (reach (now last) q) ⌝ }
-    ensures { λ r. ⌜ Leads (now (last .entry)) (now (made .entry)) q r ⌝ }
+// The first index after the first posting whose device lies beyond `end`, or the length.
+fn past(list: &[u32], end: usize) -> usize
+    requires { ⌜ 0 < length (now list) ⌝ }
+    ensures { λ r. ⌜ Around device (now (list .entry)) 1 (length (now (list .entry))) (end + 1) r r ⌝ }
 {
-    let d = device_of(q);
-    if q % 2 == 1 {
-        let whole = for_branch(last, d);
+    let mut i = 1;
+    while i < list.len() {
+        if end < device_of(list[i]) {
+            return i;
+        }
+        i += 1;
+    }
+    i
+}
+
+// The first posting of the tight list, where a run is known that the device of the first posting lies in.
+fn lead_within(last: &[u16], list: &[u32], d: usize, end: usize, until: usize) -> Lead
+    requires { ⌜ Forest (now last) ⌝ }
+    requires { ⌜ Apart (now last) (now list) ⌝ }
+    requires { ⌜ Opens (now last) (now list) d end ⌝ }
+    requires { ⌜ RunsTo (now last) (now list) until ⌝ }
+    ensures { λ r. ⌜ Leads (now (last .entry)) (now (list .entry)) r ⌝ }
+{
+    let posting = list[0];
+    if until < end {
         return Lead {
-            posting: whole,
-            taken: 0,
+            posting,
+            taken: 1,
+            until,
         };
     }
-    let count = tiles(last, made, d);
-    if count == 0 {
-        return Lead {
-            posting: q,
-            taken: 0,
-        };
-    }
-    let whole = for_branch(last, d);
     Lead {
-        posting: whole,
-        taken: count,
+        posting: posting + 1,
+        taken: past(list, end),
+        until,
     }
 }
 
-// Tightens a list in its own room. The tight list stands at the end, from the index returned on.
-pub fn tighten_list(last: &[u16], list: &mut [u32]) -> usize
+// The same where a run may be known: it is for a whole branch where the run reaches the branch's end.
+fn gather(last: &[u16], list: &[u32], d: usize, end: usize, until: usize) -> Lead
     requires { ⌜ Forest (now last) ⌝ }
-    requires { ⌜ SoundList (now last) (now list) ⌝ }
-    ensures { λ r. ⌜ Ends (now (last .entry)) (now (list .entry)) (now (list .exit)) r ⌝ }
+    requires { ⌜ Apart (now last) (now list) ⌝ }
+    requires { ⌜ Opens (now last) (now list) d end ⌝ }
+    requires { ⌜ Known (now last) (now list) until ⌝ }
+    ensures { λ r. ⌜ Leads (now (last .entry)) (now (list .entry)) r ⌝ }
 {
-    let mut from = list.len();
-    let mut i = list.len();
-    while 0 < i {
-        i -= 1;
-        let q = list[i];
-        let lead = lead_of(last, &list[from..], q);
-        from = from + lead.taken - 1;
-        list[from] = lead.posting;
+    if d <= until {
+        return lead_within(last, list, d, end, until);
     }
-    from
+    let posting = list[0];
+    let run = run_of(last, list, d, end);
+    let reached = run.until;
+    if reached < end {
+        return Lead {
+            posting,
+            taken: 1,
+            until: reached,
+        };
+    }
+    Lead {
+        posting: posting + 1,
+        taken: run.count,
+        until: reached,
+    }
+}
+
+// The first posting of the tight list of a list.
+fn lead_of(last: &[u16], list: &[u32], until: usize) -> Lead
+    requires { ⌜ Forest (now last) ⌝ }
+    requires { ⌜ Apart (now last) (now list) ⌝ }
+    requires { ⌜ 0 < length (now list) ⌝ }
+    requires { ⌜ Known (now last) (now list) until ⌝ }
+    ensures { λ r. ⌜ Leads (now (last .entry)) (now (list .entry)) r ⌝ }
+{
+    let posting = list[0];
+    let d = device_of(posting);
+    let end = end_of(last, d);
+    let leaf = end == d;
+    let made = at_leaf(posting, leaf);
+    if alone(list, made, leaf) {
+        return Lead {
+            posting: made,
+            taken: 1,
+            until,
+        };
+    }
+    gather(last, list, d, end, until)
+}
+
+// Tightens the list from `start` to `end`, and puts it at `to`. Returns where it ends.
+pub fn tighten_list(
+    last: &[u16],
+    postings: &mut [u32],
+    start: usize,
+    end: usize,
+    to: usize,
+) -> usize
+    requires { ⌜ Forest (now last) ⌝ }
+    requires { ⌜ Bounds (now postings) start end to ⌝ }
+    requires { ⌜ Apart (now last) (slice start end (now postings)) ⌝ }
+    ensures { λ r. ⌜ ListPut (now (postings .entry)) end to
+        (tight (now (last .entry)) (carried (now (last .entry)) (slice start end (now (postings .entry)))))
+        (now (postings .exit)) r ⌝ }
+{
+    let mut until = 0;
+    let mut place = to;
+    let mut at = start;
+    while at < end {
+        let lead = lead_of(last, &postings[at..end], until);
+        postings[place] = lead.posting;
+        place += 1;
+        at += lead.taken;
+        until = lead.until;
+    }
+    place
 }

@@ -14,6 +14,7 @@ pub enum Case {
     Write(Tables, Vec<u8>),
     /// Tables, and the report as lent.
     Repair(Tables, Vec<u32>),
+    Tighten(Tables),
     Query(Vec<u8>),
     Respond(Vec<u8>, Vec<u8>),
 }
@@ -29,6 +30,8 @@ pub enum Outcome {
     Written(u32, usize, Vec<u8>),
     /// The refusal, then how many were dropped and how many there are now; the tables and the report whole.
     Repaired(u32, [usize; 2], Tables, Vec<u32>),
+    /// The refusal, how many postings there are now, and the tables whole.
+    Tightened(u32, usize, Tables),
     Query(ReadQuery),
     /// How many bytes are the response, and the lent array whole.
     Bytes(usize, Vec<u8>),
@@ -58,7 +61,7 @@ fn resized(mut t: Tables, room: [usize; 6]) -> Tables {
 }
 
 /// Tables with so many postings.
-fn shortened(t: &Tables, count: usize) -> Tables {
+pub fn shortened(t: &Tables, count: usize) -> Tables {
     Tables { postings: t.postings[..count].to_vec(), ..t.clone() }
 }
 
@@ -82,6 +85,11 @@ impl Case {
                 let (refusal, numbers) = t.repair(&mut report);
                 Outcome::Repaired(refusal, numbers, t, report)
             }
+            Case::Tighten(t) => {
+                let mut t = t.clone();
+                let (refusal, count) = t.tighten();
+                Outcome::Tightened(refusal, count, t)
+            }
             Case::Query(text) => query_outcome(paper::read_query(text)),
             Case::Respond(plant, query) => {
                 let mut out = paper::respond(plant, query);
@@ -95,7 +103,8 @@ impl Case {
     /// The refusal numbers that an outcome shows.
     pub fn refusal(outcome: &Outcome) -> u32 {
         match outcome {
-            Outcome::Number(n) | Outcome::Plant(n, ..) | Outcome::Written(n, ..) | Outcome::Repaired(n, ..) => *n,
+            Outcome::Number(n) | Outcome::Plant(n, ..) | Outcome::Written(n, ..) => *n,
+            Outcome::Repaired(n, ..) | Outcome::Tightened(n, ..) => *n,
             Outcome::Answer(answer, _) => answer.refusal,
             Outcome::Query(read) => read.refusal,
             Outcome::Bytes(length, bytes) => {
@@ -123,7 +132,8 @@ impl Case {
     }
 
     /// What was written is read, and what was read is written, with just enough room and with more: the same comes back. What was
-    /// repaired is accepted, and repairing it again, with no room in the report, changes nothing.
+    /// repaired is accepted, and repairing it again, with no room in the report, changes nothing. What was tightened is accepted,
+    /// tightening it again changes nothing, and complete listings stay.
     fn way_back(&self, outcome: &Outcome) -> Vec<(Case, Outcome)> {
         match (self, outcome) {
             (Case::Write(t, _), Outcome::Written(0, length, bytes)) => {
@@ -146,6 +156,13 @@ impl Case {
                 let same = Outcome::Repaired(0, [0, *count], t.clone(), vec![]);
                 vec![(Case::Check(t.clone()), Outcome::Number(0)), (Case::Repair(t, vec![]), same)]
             }
+            (Case::Tighten(before), Outcome::Tightened(0, count, t)) => {
+                let t = shortened(t, *count);
+                let again = Outcome::Tightened(0, *count, t.clone());
+                let mut back = vec![(Case::Check(t.clone()), Outcome::Number(0)), (Case::Tighten(t.clone()), again)];
+                back.extend(listings(before, &t));
+                back
+            }
             _ => vec![],
         }
     }
@@ -153,7 +170,7 @@ impl Case {
     /// Small cases are held to the slow evaluator too.
     pub fn against_slow(&self, outcome: &Outcome) -> Option<String> {
         match (self, outcome) {
-            (Case::Check(t), Outcome::Number(n)) if t.size() <= 40 && t.postings.len() <= 100 => {
+            (Case::Check(t), Outcome::Number(n)) if small(t) => {
                 let slow = slow::check(t);
                 (slow != *n).then(|| format!("check gives {slow}"))
             }
@@ -170,9 +187,8 @@ impl Case {
                 let deep = slow::too_deep(t);
                 (deep != (Case::refusal(outcome) == 36)).then(|| format!("more than 32 tiers: {deep}"))
             }
-            (Case::Repair(t, lent), Outcome::Repaired(..)) if t.size() <= 40 && t.postings.len() <= 100 => {
-                repair_against_slow(t, lent, outcome)
-            }
+            (Case::Repair(t, lent), Outcome::Repaired(..)) if small(t) => repair_against_slow(t, lent, outcome),
+            (Case::Tighten(t), Outcome::Tightened(refusal, count, after)) => tighten_against_slow(t, *refusal, *count, after),
             _ => None,
         }
     }
@@ -197,6 +213,61 @@ fn repair_against_slow(t: &Tables, lent: &[u32], outcome: &Outcome) -> Option<St
         return Some("the freed entries are not as many as were dropped, or one is not 0".into());
     }
     slow::repair_broken(t, &shortened(after, *count), &report[..told]).map(str::to_string)
+}
+
+/// The refusal; then what an accepted tightening leaves, or what a refused one changed. Of large tables only the carriers.
+fn tighten_against_slow(t: &Tables, refusal: u32, count: usize, after: &Tables) -> Option<String> {
+    if !small(t) {
+        let same = |after: Tables| after.check() == 0 && slow::same_carriers(t, &after);
+        let kept = refusal != 0 || same(shortened(after, count));
+        return (!kept).then(|| "the outcome is refused, or a device carries other terms than before".into());
+    }
+    let slow = slow::check(t);
+    if slow != refusal {
+        return Some(format!("tightening gives {slow}"));
+    }
+    if slow != 0 {
+        return (after != t || count != 0).then(|| "a refused tightening changed something".into());
+    }
+    if after.lengths() != t.lengths() || count > t.postings.len() || after.postings[count..].iter().any(|&entry| entry != 0) {
+        return Some("there are more postings than entries, or a freed entry is not 0".into());
+    }
+    slow::tighten_broken(t, &shortened(after, count)).map(str::to_string)
+}
+
+/// Whether tables are few enough for the slow evaluator.
+fn small(t: &Tables) -> bool {
+    t.size() <= 40 && t.postings.len() <= 100
+}
+
+/// Complete searches over a small index and over what it was tightened to: the same devices are listed, and the moves are those of
+/// each index.
+fn listings(before: &Tables, after: &Tables) -> Vec<(Case, Outcome)> {
+    if !small(before) || before == after {
+        return vec![];
+    }
+    let mut all = vec![];
+    for query in complete_queries(before) {
+        let of_index = |t: &Tables| Case::Search(t.clone(), query.clone(), vec![0xabcd; t.size()]);
+        let (old, new) = (of_index(before), of_index(after));
+        let (listed, of_new) = (old.expected(), new.expected());
+        if let (Outcome::Answer(answer, listing), Outcome::Answer(Answer { passed, moves, .. }, _)) = (&listed, of_new) {
+            all.push((new, Outcome::Answer(Answer { passed, moves, ..*answer }, listing.clone())));
+        }
+        all.push((old, listed));
+    }
+    all
+}
+
+/// Three queries of the largest budget; which terms of the index they name follows from the number of postings.
+fn complete_queries(t: &Tables) -> [Query; 3] {
+    let term = |i: usize| t.terms[(t.postings.len() + i) % t.terms.len()] as u32;
+    let start = (t.postings.len() % t.size()) as u32 + 1;
+    [
+        Query { required: vec![term(0)], ..Query::empty() },
+        Query { forbidden: vec![term(1)], levels: Some((1, 254)), start, ..Query::empty() },
+        Query { required: vec![term(1)], forbidden: vec![term(2)], ..Query::empty() },
+    ]
 }
 
 fn plant_outcome(read: Result<Tables, Refused>, room: [usize; 6]) -> Outcome {
@@ -258,6 +329,7 @@ impl std::fmt::Display for Case {
             Case::Plant(bytes, room) => write!(f, "plant text {:?}\ntables of {room:?}", text(bytes)),
             Case::Write(t, buffer) => write!(f, "writing of {t:?}\ninto {:?}", text(buffer)),
             Case::Repair(t, report) => write!(f, "repair of {t:?}\nreport {report:?}"),
+            Case::Tighten(t) => write!(f, "tightening of {t:?}"),
             Case::Query(bytes) => write!(f, "query text {:?}", text(bytes)),
             Case::Respond(plant, query) => write!(f, "respond to {:?}\nand {:?}", text(plant), text(query)),
         }

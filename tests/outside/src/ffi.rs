@@ -33,6 +33,12 @@ extern "C" {
         report: *mut u32, report_len: usize, numbers: *mut [usize; 2],
     ) -> u32;
 
+    fn plant_search_tighten(
+        last: *const u16, last_len: usize, root: *const u16, root_len: usize, level: *const u8, level_len: usize,
+        terms: *const u16, terms_len: usize, starts: *mut u32, starts_len: usize, postings: *mut u32, postings_len: usize,
+        numbers: *mut [usize; 1],
+    ) -> u32;
+
     fn plant_search_read_query(
         text: *const u8, text_len: usize, required: *mut [u32; 8], forbidden: *mut [u32; 8], numbers: *mut [usize; 8],
     ) -> u32;
@@ -169,6 +175,29 @@ pub fn repair(t: &mut Tables, report: &mut [u32]) -> (u32, [usize; 2]) {
         )
     };
     (refusal, numbers)
+}
+
+/// The refusal, and how many postings there are now; starts and postings are written to.
+pub fn tighten(t: &mut Tables) -> (u32, usize) {
+    let mut numbers = [usize::MAX; 1];
+    let refusal = unsafe {
+        plant_search_tighten(
+            t.last.as_ptr(),
+            t.last.len(),
+            t.root.as_ptr(),
+            t.root.len(),
+            t.level.as_ptr(),
+            t.level.len(),
+            t.terms.as_ptr(),
+            t.terms.len(),
+            t.starts.as_mut_ptr(),
+            t.starts.len(),
+            t.postings.as_mut_ptr(),
+            t.postings.len(),
+            &mut numbers,
+        )
+    };
+    (refusal, numbers[0])
 }
 
 /// A query as read: the refusal, the two lists of terms, and line, counts, whether a range is set, low, high, start, budget.

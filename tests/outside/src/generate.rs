@@ -3,9 +3,10 @@ use crate::case::Case;
 use crate::paper::{device_of, Query, Tables};
 use crate::random::Random;
 use crate::repair_cases;
+use crate::tighten_cases;
 
 /// A sound forest of n devices. At most `depth` are open together.
-fn forest(r: &mut Random, n: usize, depth: usize) -> Tables {
+pub fn forest(r: &mut Random, n: usize, depth: usize) -> Tables {
     let mut t = Tables::default();
     let mut open: Vec<usize> = vec![];
     // how often a device closes before the next opens: flat plants, deep plants, and all between
@@ -486,7 +487,7 @@ fn buffer(r: &mut Random, t: &Tables) -> Vec<u8> {
 }
 
 pub fn case(r: &mut Random) -> Case {
-    match r.below(31) {
+    match r.below(35) {
         0..4 => Case::Check(tables(r)),
         4..10 => {
             let t = tables(r);
@@ -523,7 +524,8 @@ pub fn case(r: &mut Random) -> Case {
             let answer = vec![r.next() as u16; t.size()];
             Case::Search(t, q, answer)
         }
-        _ => repair_cases::case(r),
+        28..31 => repair_cases::case(r),
+        _ => tighten_cases::case(r),
     }
 }
 
@@ -538,7 +540,7 @@ pub const Q: &[u8] = b"(plant\n(dev 100\n(dev 101\n(dev 102\n)\n(dev 103\n)\n(de
 (mark 4\n(own 2)\n(own 3)\n(own 4)\n(own 6)\n(own 8)\n)\n)\n";
 
 /// Cases without chance: each way to damage P in one place, P's text and an ask cut and changed at every byte, every small
-/// query over P and Q, tables of lengths 0 and 1, what is written at each limit, the longest lists, and repairs.
+/// query over P and Q, tables of lengths 0 and 1, what is written at each limit, the longest lists, repairs and tightenings.
 pub fn systematic() -> Vec<Case> {
     let p = crate::paper::read_plant(P, [9; 6]).unwrap();
     let mut cases = vec![];
@@ -562,6 +564,7 @@ pub fn systematic() -> Vec<Case> {
     large_tables(&mut cases);
     long_lists(&mut cases);
     repair_cases::systematic(&mut cases);
+    tighten_cases::systematic(&mut cases);
     cases
 }
 
@@ -610,6 +613,7 @@ fn damaged_tables(p: &Tables, cases: &mut Vec<Case>) {
                     cases.push(Case::Check(t.clone()));
                     cases.push(Case::Write(t.clone(), vec![5; P.len() + 2]));
                     cases.push(Case::Repair(t.clone(), vec![5; 9]));
+                    cases.push(Case::Tighten(t.clone()));
                     cases.push(Case::Search(t, Query::empty(), vec![5; 6]));
                 }
             };
@@ -659,6 +663,7 @@ fn short_tables(cases: &mut Vec<Case>) {
             cases.push(Case::Check(t.clone()));
             cases.push(Case::Write(t.clone(), vec![5; 40]));
             cases.push(Case::Repair(t.clone(), vec![5; 2]));
+            cases.push(Case::Tighten(t.clone()));
             for start in 0..3 {
                 let q = Query { required: vec![value], start, ..Query::empty() };
                 cases.push(Case::Search(t.clone(), q, vec![5; length(0)]));

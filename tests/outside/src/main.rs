@@ -13,6 +13,8 @@ mod rows;
 mod shrink;
 mod slow;
 mod subjects;
+mod tighten;
+mod tighten_cases;
 
 use case::{Case, Outcome};
 use paper::Answer;
@@ -32,6 +34,8 @@ struct Tally {
     searches: [[usize; 2]; 2],
     /// accepted repairs: how many, and how many of them drop postings
     repairs: [usize; 2],
+    /// accepted tightenings: how many, and how many of them get shorter
+    tightenings: [usize; 2],
 }
 
 impl Tally {
@@ -61,6 +65,10 @@ impl Tally {
             self.repairs[0] += 1;
             self.repairs[1] += (*dropped > 0) as usize;
         }
+        if let Outcome::Tightened(0, count, t) = expected {
+            self.tightenings[0] += 1;
+            self.tightenings[1] += (*count < t.postings.len()) as usize;
+        }
     }
 
     /// Every row of document 01's table is reached, and 36, 40, 41 and 44 of document 02, but 26: no text has a closing bracket
@@ -78,6 +86,7 @@ impl Tally {
             println!("{how} searches: {all}, {passing} of them pass postings over");
         }
         println!("accepted repairs: {}, {} of them drop postings", self.repairs[0], self.repairs[1]);
+        println!("accepted tightenings: {}, {} of them get shorter", self.tightenings[0], self.tightenings[1]);
         println!("{} cases, {} differ, {seconds:.1} seconds", self.cases, self.differ);
         if !reached {
             println!("a refusal was not reached");
@@ -93,7 +102,7 @@ fn main() {
     let subject: &dyn Subject = if wrong { &subjects::Wrong(number(1, 1)) } else { &subjects::Archive };
     let cases = if wrong { number(2, 200_000) } else { number(0, 1_400_000) };
     let mut random = Random(if wrong { 1 } else { number(1, 20_260_101) });
-    let mut tally = Tally { cases: 0, differ: 0, refusals: [0; 45], searches: [[0; 2]; 2], repairs: [0; 2] };
+    let mut tally = Tally { cases: 0, differ: 0, refusals: [0; 45], searches: [[0; 2]; 2], repairs: [0; 2], tightenings: [0; 2] };
     let began = Instant::now();
     for case in generate::systematic() {
         tally.run(case, subject);

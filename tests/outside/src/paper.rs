@@ -47,7 +47,8 @@ impl Tables {
         [self.last.len(), self.root.len(), self.level.len(), self.terms.len(), self.starts.len(), self.postings.len()]
     }
 
-    fn last_of(&self, device: usize) -> usize {
+    /// The last device of a device's branch.
+    pub fn last_of(&self, device: usize) -> usize {
         self.last[device - 1] as usize
     }
 

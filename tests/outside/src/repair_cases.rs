@@ -93,7 +93,7 @@ fn push(t: &Tables, spare: &[isize], cases: &mut Vec<Case>) {
 }
 
 /// The tables of a plant with one term.
-fn one_list(plant: &Tables, list: &[u32]) -> Tables {
+pub fn one_list(plant: &Tables, list: &[u32]) -> Tables {
     Tables { terms: vec![7], starts: vec![0], postings: list.to_vec(), ..plant.clone() }
 }
 
@@ -141,7 +141,7 @@ fn mixtures(cases: &mut Vec<Case>) {
 }
 
 /// Every plant of n devices.
-fn plants(n: usize) -> Vec<Tables> {
+pub fn plants(n: usize) -> Vec<Tables> {
     let mut all: Vec<Vec<usize>> = vec![vec![]];
     for _ in 0..n {
         let longer = |tiers: &Vec<usize>| -> Vec<Vec<usize>> {
@@ -154,7 +154,7 @@ fn plants(n: usize) -> Vec<Tables> {
 }
 
 /// Every list of so many postings, from device 0 to device N + 1.
-fn lists(count: usize, n: usize) -> Vec<Vec<u32>> {
+pub fn lists(count: usize, n: usize) -> Vec<Vec<u32>> {
     let postings = 0..2 * n as u32 + 4;
     let mut all = vec![vec![]];
     for _ in 0..count {

@@ -1,12 +1,13 @@
-//! Document 01's worked rows over plant P, and more over plant Q, which the plain implementation must give, what it writes and what
-//! it repairs.
+//! Document 01's worked rows over plant P, and more over plant Q, which the plain implementation must give, what it writes, what it
+//! repairs and what it tightens.
 use crate::case::{Case, Outcome};
 use crate::generate::{self, P, Q};
 use crate::paper::{read_plant, read_query, respond, Answer, Query, Tables};
 use crate::random::Random;
-use crate::repair_cases;
-use crate::slow::broken;
+use crate::repair_cases::{self, one_list, plants};
+use crate::slow::{self, broken};
 use crate::subjects::Wrong;
+use crate::tighten_cases;
 use crate::Subject;
 use std::collections::BTreeSet;
 
@@ -102,7 +103,7 @@ fn passed_is_bounded() {
 /// Every known mistake is found by the random cases alone.
 #[test]
 fn mistakes_are_found() {
-    for k in 1..=39 {
+    for k in 1..=70 {
         let mut r = Random(1);
         let mut cases = (0..100_000).map(|_| generate::case(&mut r));
         assert!(cases.any(|case| case.difference(&case.expected(), &Wrong(k)).is_some()), "mistake {k}");
@@ -212,15 +213,18 @@ fn repairs() -> impl Iterator<Item = Case> {
     (0..20_000).map(move |_| repair_cases::case(&mut r))
 }
 
+/// The refusals that cases reach, 0 among them.
+fn reached(cases: impl Iterator<Item = Case>) -> BTreeSet<u32> {
+    cases.map(|case| Case::refusal(&case.expected())).collect()
+}
+
 #[test]
 fn repairs_reach_every_refusal() {
     let mut systematic = vec![];
     repair_cases::systematic(&mut systematic);
-    let reached =
-        |cases: &mut dyn Iterator<Item = Case>| -> BTreeSet<u32> { cases.map(|case| Case::refusal(&case.expected())).collect() };
     let rows = BTreeSet::from([0, 1, 2, 3, 4, 5, 6, 7, 8, 41, 44]);
-    assert_eq!(reached(&mut systematic.into_iter()), rows);
-    assert_eq!(reached(&mut repairs()), rows);
+    assert_eq!(reached(systematic.into_iter()), rows);
+    assert_eq!(reached(repairs()), rows);
 }
 
 /// The slow evaluator alone finds each mistake of a repair.
@@ -228,6 +232,86 @@ fn repairs_reach_every_refusal() {
 fn slow_finds_mistakes_of_repair() {
     for k in 23..=39 {
         assert!(repairs().any(|case| case.against_slow(&Wrong(k).outcome(&case)).is_some()), "mistake {k}");
+    }
+}
+
+#[test]
+fn lists_over_p_are_tightened() {
+    let p = read_plant(P, [9; 6]).unwrap();
+    let row = |list: &[u32], tight: &[u32]| {
+        let mut t = one_list(&p, list);
+        assert_eq!(t.tighten(), (0, tight.len()), "{list:?}");
+        assert_eq!(t, one_list(&p, &[tight, &vec![0; list.len() - tight.len()]].concat()));
+    };
+    // a branch, a tree of two branches, and the tree where some of it is shared
+    row(&[4, 6], &[5]);
+    row(&[2, 4, 6, 8, 10, 12], &[3]);
+    row(&[2, 5, 8, 10, 12], &[3]);
+    row(&[2, 5, 9], &[3]);
+    // without the last device, the top, a first child and a last child
+    row(&[2, 4, 6, 8, 10], &[2, 5, 8, 10]);
+    row(&[4, 6, 8, 10, 12], &[5, 9]);
+    row(&[2, 6, 8, 10, 12], &[2, 6, 9]);
+    row(&[2, 4, 6], &[2, 5]);
+    // a leaf
+    row(&[7], &[6]);
+    row(&[7, 8, 11, 13], &[6, 9]);
+    // what is tight
+    row(&[], &[]);
+    row(&[2, 5, 10], &[2, 5, 10]);
+    row(&[3], &[3]);
+    assert_eq!(one_list(&p, &[5, 6]).tighten(), (9, 0));
+    assert_eq!(one_list(&p, &[4, 4]).tighten(), (8, 0));
+}
+
+#[test]
+fn an_index_is_tightened() {
+    let p = read_plant(P, [9; 6]).unwrap();
+    let t = Tables { terms: vec![5, 7, 8, 9], starts: vec![0, 2, 2, 5], postings: vec![4, 6, 8, 10, 12, 7], ..p };
+    let mut after = t.clone();
+    assert_eq!(after.tighten(), (0, 3));
+    assert_eq!(after, Tables { starts: vec![0, 1, 1, 2], postings: vec![5, 9, 6, 0, 0, 0], ..t.clone() });
+    let refused = Tables { terms: vec![5, 7, 8, 8], ..t };
+    let mut after = refused.clone();
+    assert_eq!((after.tighten(), &after), ((6, 0), &refused));
+}
+
+/// The length of the shortest list with the carriers of each, written out for every list on every plant of up to three devices.
+#[test]
+fn fewest_is_of_every_list() {
+    for (n, t) in (0..=3).flat_map(|n| plants(n).into_iter().map(move |t| (n, t))) {
+        let carriers = |list: &[u32]| -> usize { t.carriers(list).iter().map(|d| 1 << d).sum() };
+        let all: Vec<Vec<u32>> = (0..=n + 1).flat_map(|count| repair_cases::lists(count, n)).collect();
+        let on_plant = |list: &&Vec<u32>| list.iter().all(|q| (2..2 * n as u32 + 2).contains(q));
+        let mut fewest = vec![usize::MAX; 2 << n];
+        for list in all.iter().filter(on_plant) {
+            let least = &mut fewest[carriers(list)];
+            *least = list.len().min(*least);
+        }
+        assert_eq!(slow::fewest(&t), fewest);
+    }
+}
+
+/// Random tightenings.
+fn tightenings() -> impl Iterator<Item = Case> {
+    let mut r = Random(1);
+    (0..20_000).map(move |_| tighten_cases::case(&mut r))
+}
+
+#[test]
+fn tightenings_reach_every_refusal() {
+    let mut systematic = vec![];
+    tighten_cases::systematic(&mut systematic);
+    let rows = (0..=9).collect();
+    assert_eq!(reached(systematic.into_iter()), rows);
+    assert_eq!(reached(tightenings()), rows);
+}
+
+/// The slow evaluator alone finds each mistake of a tightening.
+#[test]
+fn slow_finds_mistakes_of_tightening() {
+    for k in 40..=70 {
+        assert!(tightenings().any(|case| case.against_slow(&Wrong(k).outcome(&case)).is_some()), "mistake {k}");
     }
 }
 
@@ -269,9 +353,17 @@ fn what_comes_back_is_compared() {
     let p = read_plant(P, [9; 6]).unwrap();
     let read = Case::Plant(P.to_vec(), [9; 6]);
     let written = Case::Write(p.clone(), vec![7; P.len()]);
-    let repair = Case::Repair(p, vec![7; 3]);
-    let wrong: [(_, &dyn Subject); 4] =
-        [(read, &Wrong(7)), (written, &ReadsWrong), (repair.clone(), &ReadsWrong), (repair, &Wrong(34))];
+    let repair = Case::Repair(p.clone(), vec![7; 3]);
+    let tighten = Case::Tighten(one_list(&p, &[4, 6]));
+    let wrong: [(_, &dyn Subject); 7] = [
+        (read, &Wrong(7)),
+        (written, &ReadsWrong),
+        (repair.clone(), &ReadsWrong),
+        (repair, &Wrong(34)),
+        (tighten.clone(), &ReadsWrong),
+        (tighten.clone(), &Wrong(61)),
+        (tighten, &Wrong(14)),
+    ];
     for (case, wrong) in wrong {
         assert_eq!(case.expected(), wrong.outcome(&case));
         assert!(case.difference(&case.expected(), wrong).is_some());

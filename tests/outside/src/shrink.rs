@@ -60,6 +60,7 @@ fn candidates(case: &Case) -> Box<dyn Iterator<Item = Case> + '_> {
             });
             Box::new(of_tables.chain(buffers(report, 7).into_iter().map(|r| Case::Repair(t.clone(), r))))
         }
+        Case::Tighten(t) => Box::new(tables(t).map(Case::Tighten)),
         Case::Query(text) => Box::new(texts(text).map(Case::Query)),
         Case::Respond(plant, query) => {
             let shorter_plants = texts(plant).map(|p| Case::Respond(p, query.clone()));

@@ -1,5 +1,5 @@
 //! The slow unshared evaluator: what matches, by writing every list out, and what is promised of a run, with no cursor in it; what
-//! is promised of a repair.
+//! is promised of a repair and of a tightening.
 use crate::paper::{device_of, Answer, Query, Tables};
 
 /// The last device that a posting carries its term to.
@@ -14,11 +14,21 @@ fn end_of(tables: &Tables, posting: u32) -> usize {
 
 /// Every device that carries the term, marked.
 fn carriers(tables: &Tables, term: u32) -> Vec<bool> {
+    carriers_of(tables, tables.list_of(term))
+}
+
+/// Every device that a list carries its term to, marked.
+fn carriers_of(tables: &Tables, list: &[u32]) -> Vec<bool> {
     let mut carries = vec![false; tables.size() + 1];
-    for &posting in tables.list_of(term) {
+    for &posting in list {
         carries[device_of(posting)..=end_of(tables, posting)].fill(true);
     }
     carries
+}
+
+/// The devices that carry each term, marked.
+fn carried(t: &Tables) -> Vec<Vec<bool>> {
+    lists(t).map(|l| carriers_of(t, l)).collect()
 }
 
 pub fn matches(tables: &Tables, query: &Query) -> Vec<bool> {
@@ -166,7 +176,6 @@ fn sorted(t: &Tables, report: &[u32]) -> Vec<Vec<u32>> {
 
 /// What an accepted repair breaks, if anything: `after` has the kept postings alone, and the report the dropped ones.
 pub fn repair_broken(before: &Tables, after: &Tables, report: &[u32]) -> Option<&'static str> {
-    let carried = |t: &Tables| -> Vec<_> { t.terms.iter().map(|&term| carriers(t, term as u32)).collect() };
     if check(after) != 0 {
         Some("the outcome is refused")
     } else if carried(before) != carried(after) {
@@ -180,6 +189,90 @@ pub fn repair_broken(before: &Tables, after: &Tables, report: &[u32]) -> Option<
     } else {
         None
     }
+}
+
+/// The tightened list of these carriers, as the request says it, each device against each.
+fn tight(t: &Tables, carries: &[bool]) -> Vec<u32> {
+    let devices = || 1..=t.size();
+    let last = |d: usize| t.last[d - 1] as usize;
+    let whole = |d: usize| (d..=last(d)).all(|e| carries[e]);
+    let inside_larger = |d: usize| devices().any(|e| e < d && d <= last(e) && whole(e));
+    let posting = |d: usize| {
+        if carries[d] && !whole(d) {
+            Some(2 * d as u32)
+        } else if whole(d) && !inside_larger(d) {
+            Some(2 * d as u32 + (last(d) > d) as u32)
+        } else {
+            None
+        }
+    };
+    devices().filter_map(posting).collect()
+}
+
+/// The carriers as a number with a bit for each device.
+fn bits(carries: &[bool]) -> usize {
+    carries.iter().enumerate().map(|(d, &carries)| (carries as usize) << d).sum()
+}
+
+/// For each choice of carriers, the fewest postings of any list that has them: every list is gone through, of no postings, of one
+/// and so on, sorted or not, with repeated and redundant ones. Of those that have the same carriers only a shortest is gone on
+/// from, since one posting more makes the same of each.
+pub fn fewest(t: &Tables) -> Vec<usize> {
+    let n = t.size();
+    let postings: Vec<usize> = (2..2 * n as u32 + 2).map(|q| bits(&carriers_of(t, &[q]))).collect();
+    let mut fewest = vec![usize::MAX; 2 << n];
+    fewest[0] = 0;
+    let mut shorter = vec![0];
+    for length in 1..=n {
+        let all: Vec<usize> = shorter.iter().flat_map(|list| postings.iter().map(move |posting| list | posting)).collect();
+        shorter.clear();
+        for carriers in all {
+            if fewest[carriers] == usize::MAX {
+                fewest[carriers] = length;
+                shorter.push(carriers);
+            }
+        }
+    }
+    fewest
+}
+
+/// Whether some list is longer than the shortest with its carriers, for a plant of few devices.
+fn any_longer(t: &Tables) -> bool {
+    let fewest = fewest(t);
+    lists(t).any(|l| l.len() > fewest[bits(&carriers_of(t, l))])
+}
+
+/// What an accepted tightening breaks, if anything: `after` has the new postings alone.
+pub fn tighten_broken(before: &Tables, after: &Tables) -> Option<&'static str> {
+    if check(after) != 0 {
+        Some("the outcome is refused")
+    } else if carried(before) != carried(after) {
+        Some("a device carries other terms than before")
+    } else if !lists(after).eq(carried(before).iter().map(|carries| tight(before, carries))) {
+        Some("a list is not the tightened one")
+    } else if before.size() <= 7 && any_longer(after) {
+        Some("a list with the same carriers is shorter")
+    } else {
+        None
+    }
+}
+
+/// The stretches of devices that an accepted list carries its term to, each as long as it can be.
+fn stretches(t: &Tables, list: &[u32]) -> Vec<(usize, usize)> {
+    let mut all: Vec<(usize, usize)> = vec![];
+    for &posting in list {
+        let (from, to) = (device_of(posting), end_of(t, posting));
+        match all.last_mut() {
+            Some((_, end)) if *end + 1 == from => *end = to,
+            _ => all.push((from, to)),
+        }
+    }
+    all
+}
+
+/// Whether each term has the same carriers in two accepted indexes of one plant.
+pub fn same_carriers(before: &Tables, after: &Tables) -> bool {
+    lists(before).map(|l| stretches(before, l)).eq(lists(after).map(|l| stretches(after, l)))
 }
 
 /// Whether some device lies in more than 32 branches, each device against each, for device tables that were accepted.

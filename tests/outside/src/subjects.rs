@@ -29,6 +29,11 @@ impl Subject for Archive {
                 let (refusal, numbers) = ffi::repair(&mut t, &mut report);
                 Outcome::Repaired(refusal, numbers, t, report)
             }
+            Case::Tighten(t) => {
+                let mut t = t.clone();
+                let (refusal, count) = ffi::tighten(&mut t);
+                Outcome::Tightened(refusal, count, t)
+            }
             Case::Query(text) => Outcome::Query(ffi::read_query(text)),
             Case::Respond(plant, query) => {
                 let (length, bytes) = ffi::respond(plant, query);
@@ -132,9 +137,13 @@ impl Subject for Wrong {
                 passed_late(&mut bytes[..length]);
                 Outcome::Bytes(length, bytes)
             }
-            (23.., Case::Repair(t, report), Outcome::Repaired(refusal, numbers, after, told)) => {
+            (23..=39, Case::Repair(t, report), Outcome::Repaired(refusal, numbers, after, told)) => {
                 let (refusal, numbers, after, told) = misrepaired(self.0, t, report, (refusal, numbers, after, told));
                 Outcome::Repaired(refusal, numbers, after, told)
+            }
+            (40.., Case::Tighten(t), Outcome::Tightened(refusal, count, after)) => {
+                let (refusal, count, after) = mistightened(self.0, t, (refusal, count, after));
+                Outcome::Tightened(refusal, count, after)
             }
             (_, _, outcome) => outcome,
         }
@@ -180,7 +189,7 @@ fn kept_by_nearest(t: &Tables) -> Vec<bool> {
     kept
 }
 
-/// A repair with one of the mistakes from 23 on.
+/// A repair with one of the mistakes 23 to 39.
 fn misrepaired(mistake: u64, t: &Tables, report: &[u32], mut right: Repaired) -> Repaired {
     let refused = |number: u32| (number, [0, 0], t.clone(), report.to_vec());
     let (refusal, [dropped, count], after, told) = &mut right;
@@ -238,6 +247,181 @@ fn keeping(t: &Tables, report: &[u32], kept: &[bool]) -> Repaired {
     let (mut t, mut report) = (t.clone(), report.to_vec());
     let (refusal, numbers) = t.keep(kept, &mut report);
     (refusal, numbers, t, report)
+}
+
+/// A tightening: the refusal, how many postings there are now, and the tables.
+type Tightened = (u32, usize, Tables);
+
+/// The list at index k, where one of the mistakes 40 to 44 takes another branch for whole.
+fn taken_for_whole(mistake: u64, t: &Tables, k: usize) -> Vec<u32> {
+    let list = t.list(k);
+    let carriers = &t.carriers(list);
+    let last = |i: usize| t.last_of(carriers[i]);
+    let carries = |d: usize| carriers.binary_search(&d).is_ok();
+    match mistake {
+        // one that lacks its last device
+        40 => {
+            let but_last = |i: usize| carriers.get(i + last(i) - carriers[i] - 1) == Some(&(last(i) - 1));
+            t.tight(carriers, |i| t.whole(carriers, i) || but_last(i))
+        }
+        // one that lacks its top
+        41 => {
+            let more = with_tops(t, carriers);
+            t.tight(&more, |i| t.whole(&more, i))
+        }
+        // one whose top and last device carry the term
+        42 => t.tight(carriers, |i| carries(last(i))),
+        // one whose top carries the term, and what it feeds directly
+        43 => t.tight(carriers, |i| fed_by(t, carriers[i]).all(carries)),
+        // one that the list and the next together carry the term to
+        44 if k + 1 < t.terms.len() => {
+            let both = t.carriers(&[list, t.list(k + 1)].concat());
+            t.tight(carriers, |i| t.whole(&both, both.binary_search(&carriers[i]).unwrap()))
+        }
+        _ => t.tight_list(list),
+    }
+}
+
+/// The devices that a device feeds directly.
+fn fed_by(t: &Tables, device: usize) -> impl Iterator<Item = usize> + '_ {
+    let last = t.last_of(device);
+    let next = move |&d: &usize| (d <= last).then(|| t.last_of(d) + 1);
+    std::iter::successors(Some(device + 1), next).take_while(move |&d| d <= last)
+}
+
+/// These carriers, and each device that lacks the term though all that it feeds carry it.
+fn with_tops(t: &Tables, carriers: &[usize]) -> Vec<usize> {
+    let mut more = carriers.to_vec();
+    for (i, &first) in carriers.iter().enumerate().filter(|(_, &first)| first > 1) {
+        let last = t.last_of(first - 1);
+        if last >= first && carriers.get(i + last - first) == Some(&last) {
+            more.push(first - 1);
+        }
+    }
+    more.sort_unstable();
+    more.dedup();
+    more
+}
+
+/// A list where one of the mistakes 45 to 50 leaves a whole branch as it was noted.
+fn not_gathered(mistake: u64, t: &Tables, list: &[u32]) -> Vec<u32> {
+    let carriers = &t.carriers(list);
+    let shared: Vec<usize> = list.iter().filter(|&q| q % 2 == 1).map(|&q| device_of(q)).collect();
+    let left = |top: usize, last: usize| match mistake {
+        // one whose top feeds one device, which feeds the rest
+        45 => last > top && t.last_of(top + 1) == last,
+        // one with a shared posting below its top
+        46 => shared.get(shared.partition_point(|&d| d <= top)).is_some_and(|&d| d <= last),
+        // one with a branch below its top: only one level is gathered
+        47 => (top + 1..=last).any(|d| t.last_of(d) > d),
+        // one that is a tree
+        48 => t.root[top - 1] as usize == top,
+        // one that ends with device N
+        49 => last == t.size(),
+        // one that the list ends with
+        _ => carriers.last() == Some(&last),
+    };
+    let noted = |top: usize| shared.binary_search(&top).is_err() && left(top, t.last_of(top));
+    t.tight(carriers, |i| t.whole(carriers, i) && !noted(carriers[i]))
+}
+
+/// A list tightened with one of the mistakes 51 to 57.
+fn wrongly_listed(mistake: u64, t: &Tables, list: &[u32]) -> Vec<u32> {
+    let mut right = t.tight_list(list);
+    let leaf = |q: u32| t.last_of(device_of(q)) == device_of(q);
+    let stood = |q: u32| list.binary_search(&q).is_ok();
+    match mistake {
+        // a shared posting at a leaf stays
+        51 => right.iter_mut().filter(|q| leaf(**q) && stood(**q + 1)).for_each(|q| *q += 1),
+        // every leaf gets a shared posting
+        52 => right.iter_mut().filter(|q| leaf(**q)).for_each(|q| *q += 1),
+        // a shared posting inside a larger whole branch stays
+        53 => {
+            right.extend(list.iter().filter(|&&q| q % 2 == 1 && !leaf(q)));
+            right.sort_unstable();
+            right.dedup();
+        }
+        // the private posting of a top stays beside the shared one
+        54 => {
+            let beside: Vec<u32> = right.iter().filter(|&&q| q % 2 == 1 && stood(q - 1)).map(|q| q - 1).collect();
+            right.extend(beside);
+            right.sort_unstable();
+        }
+        // a device whose branch is not whole gets no posting
+        55 => right.retain(|&q| q % 2 == 1 || leaf(q)),
+        // the shared postings stand before the private ones
+        56 => right.sort_by_key(|q| q % 2 == 0),
+        // the first posting is not looked at
+        57 if !list.is_empty() => right = [&list[..1], &t.tight_list(&list[1..])].concat(),
+        _ => (),
+    }
+    right
+}
+
+/// A tightening with one of the mistakes from 40 on.
+fn mistightened(mistake: u64, t: &Tables, mut right: Tightened) -> Tightened {
+    let (refusal, count, after) = &mut right;
+    let end = t.postings.len();
+    let putting = |list: &dyn Fn(usize) -> Vec<u32>| put(t, (0..t.terms.len()).map(list).collect());
+    match (mistake, *refusal) {
+        (40..45, 0) => return putting(&|k| taken_for_whole(mistake, t, k)),
+        (45..51, 0) => return putting(&|k| not_gathered(mistake, t, t.list(k))),
+        (51..58, 0) => return putting(&|k| wrongly_listed(mistake, t, t.list(k))),
+        // the last freed entry keeps what it held
+        (58, 0) if *count < end => after.postings[end - 1] = t.postings[end - 1],
+        // the last posting goes with the freed entries
+        (59, 0) if *count < end => after.postings[*count - 1] = 0,
+        // the old length is given
+        (60, 0) => *count = end,
+        // where nothing comes free, 0 is given
+        (61, 0) if *count == end => *count = 0,
+        // the lists start where they did
+        (62, 0) => after.starts.clone_from(&t.starts),
+        // an empty list starts where it did
+        (63, 0) => (0..t.terms.len()).filter(|&k| t.list(k).is_empty()).for_each(|k| after.starts[k] = t.starts[k]),
+        // each list stays where it was, with 0 after it
+        (64, 0) => return (0, *count, put(t, padded(t, after)).2),
+        // the last list stays as it was
+        (65, 0) => return putting(&|k| if k + 1 < t.terms.len() { after.list(k) } else { t.list(k) }.to_vec()),
+        // redundant postings are taken, on plants where branches inside branches are not too much to write out
+        (66, 9) if t.size() < 2_000 => return putting(&|k| t.tight_list(t.list(k))),
+        // devices that do not rise are taken, on such plants
+        (67, 8) if t.size() < 2_000 && t.postings.iter().all(|&q| (1..=t.size()).contains(&device_of(q))) => {
+            return putting(&|k| t.tight_list(t.list(k)));
+        }
+        // the first list is tightened before another is refused
+        (68, 8 | 9) => after.postings[..t.list(0).len()].copy_from_slice(&first_tightened(t)),
+        // a refused index is set to 0
+        (69, 1..) => after.postings.fill(0),
+        // a refusal comes with the old length
+        (70, 1..) => *count = end,
+        _ => (),
+    }
+    right
+}
+
+/// The index with these lists in it.
+fn put(t: &Tables, lists: Vec<Vec<u32>>) -> Tightened {
+    let mut t = t.clone();
+    let count = t.put(lists);
+    (0, count, t)
+}
+
+/// The tightened lists, each with 0 after it up to its old length.
+fn padded(t: &Tables, after: &Tables) -> Vec<Vec<u32>> {
+    let list = |k: usize| {
+        let mut list = after.list(k).to_vec();
+        list.resize(t.list(k).len(), 0);
+        list
+    };
+    (0..t.terms.len()).map(list).collect()
+}
+
+/// The first list tightened in its own room, where it is not refused itself.
+fn first_tightened(t: &Tables) -> Vec<u32> {
+    let mut first = Tables { terms: vec![1], starts: vec![0], postings: t.list(0).to_vec(), ..t.clone() };
+    first.tighten();
+    first.postings
 }
 
 /// The outcome of a search, where an accepted one counts passed in this way.

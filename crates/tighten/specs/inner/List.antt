@@ -1,49 +1,55 @@
--- The tightening of one list, from its end. The contracts of private functions alone cite this.
-use Prim.Native.Nat.{ℕ, _+_, _-_, _≤_, _<_}
+-- The tightening of one list, in one pass. The contracts of private functions alone cite this.
+use Prim.Native.Nat.{ℕ, _+_, _-_, _*_, _≤_, _<_}
 use mathlib.Core.Path.{_≡_}
-use mathlib.Core.Bool.{true}
-use mathlib.Core.List.{List, _∷_, _++_}
-use lib.ListN.{length, take, drop}
-use lib.Seq.{slice}
-use Rattle.laws.specs.Joined.{joined}
+use mathlib.Core.Bool.{true, false}
+use mathlib.Core.List.{List, _∷_}
+use lib.ListN.{length, getD, drop}
 use Rattle.laws.specs.Tables.{entry}
-use Rattle.tighten.specs.Tight.{postings-at, tight}
+use Rattle.laws.specs.inner.Entries.{IsEntry}
+use Rattle.index.specs.Postings.{device, reach}
+use Rattle.tighten.specs.Tight.{tight}
 use Rattle.tighten.specs.inner.Branches.{carried}
 use Rattle.tighten.specs.declared.list.Lead.{Lead}
+use Rattle.tighten.specs.declared.list.Run.{Run}
 
--- a tight list that stands after a posting at device d, which reaches device far
-pub record After (last made : List ℕ) (d far : ℕ) : Type 0 where
-  pub first : 1 ≤ d
-  pub upto : d ≤ length last
-  pub tight : tight last (carried last made) ≡ made
-  pub beyond : (e : ℕ) → carried last made e ≡ true → (far < e) × (e ≤ length last)
+-- each posting is of a device of the plant, and lies beyond what those before it carry to
+pub record Apart (last l : List ℕ) : Type 0 where
+  pub of-plant : (k : ℕ) → k < length l → IsEntry last (device (getD l k 0))
+  pub beyond : (i k : ℕ) → i < k → k < length l → reach last (getD l i 0) < device (getD l k 0)
 
--- every device that d feeds carries the term of the list
-abbrev pub Fed : List ℕ → List ℕ → ℕ → Type 0
-Fed last made d = (e : ℕ) → d < e → e ≤ entry last d → carried last made e ≡ true
+-- every device from that of the first posting up to `until` carries the term, and the next does not
+pub record RunsTo (last l : List ℕ) (until : ℕ) : Type 0 where
+  pub first : device (getD l 0 0) ≤ until
+  pub all : (d : ℕ) → device (getD l 0 0) ≤ d → d ≤ until → carried last l d ≡ true
+  pub stop : carried last l (until + 1) ≡ false
 
--- the first r postings of the list are those of the devices that d feeds, each of which carries the term; or r is 0
-pub record Tiled (last made : List ℕ) (d r : ℕ) : Type 0 where
-  pub some : 1 ≤ r → (d < entry last d) × (r ≡ length (joined (postings-at last (carried last made)) (entry last d)))
-  pub all : 1 ≤ r → Fed last made d
-  pub none : r ≡ 0 → d < entry last d → Fed last made d → ⊥
+-- the same, unless `until` is below the device of the first posting
+pub record Known (last l : List ℕ) (until : ℕ) : Type 0 where
+  pub runs : 0 < length l → device (getD l 0 0) ≤ until → RunsTo last l until
 
--- the tight list of q and what stands after it: a posting, then what is left
-pub record Leads (last made : List ℕ) (q : ℕ) (r : Lead) : Type 0 where
-  pub within : r .taken ≤ length made
-  pub is : r .posting ∷ drop (r .taken) made ≡ tight last (carried last (q ∷ made))
+-- the first posting is for device d alone, which feeds others, up to `end`
+pub record Opens (last l : List ℕ) (d end : ℕ) : Type 0 where
+  pub some : 0 < length l
+  pub own : getD l 0 0 ≡ 2 * d
+  pub branch : end ≡ entry last d
+  pub feeds : d < end
 
--- the tight list stands at the end of the room of the old one
-pub record Ends (last old new : List ℕ) (from : ℕ) : Type 0 where
-  pub within : from ≤ length old
-  pub length-kept : length new ≡ length old
-  pub is : drop from new ≡ tight last (carried last old)
+-- the first postings follow one another, up to `end` or to a device before it that the term is not carried beyond
+pub record Runs (last l : List ℕ) (end : ℕ) (r : Run) : Type 0 where
+  pub some : 1 ≤ r .count
+  pub within : r .count ≤ length l
+  pub is : r .until ≡ reach last (getD l (r .count - 1) 0)
+  pub most : r .until ≤ end
+  pub first : device (getD l 0 0) ≤ r .until
+  pub all : (d : ℕ) → device (getD l 0 0) ≤ d → d ≤ r .until → carried last l d ≡ true
+  pub stop : r .until < end → carried last l (r .until + 1) ≡ false
 
--- the part from `from` to `end` stands at `to`, and what stood before that and after the part is kept
-pub record Moved (old : List ℕ) (from end to : ℕ) (new : List ℕ) : Type 0 where
-  pub length-kept : length new ≡ length old
-  pub front : take (to + (end - from)) new ≡ take to old ++ slice from end old
-  pub back : drop end new ≡ drop end old
+-- a posting takes the place of the first postings of a list: the tight list is that posting, and then the tight list of what is left
+pub record Leads (last l : List ℕ) (r : Lead) : Type 0 where
+  pub some : 1 ≤ r .taken
+  pub within : r .taken ≤ length l
+  pub is : tight last (carried last l) ≡ r .posting ∷ tight last (carried last (drop (r .taken) l))
+  pub known : Known last (drop (r .taken) l) (r .until)
 
 -- where a list stands, and where it goes
 pub record Bounds (l : List ℕ) (start end to : ℕ) : Type 0 where

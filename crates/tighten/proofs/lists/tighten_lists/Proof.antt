@@ -7,7 +7,7 @@ use borrow.Author.Needs.{needs}
 use Rattle.index.specs.Index.{index}
 use Rattle.index.proofs.Laying.{Laying, lay-start}
 use Rattle.tighten.specs.inner.Branches.{tight-of}
-use Rattle.tighten.proofs.Rounds.{round-few, round-starts, round-bounds, round-sound, round-turn, round-end}
+use Rattle.tighten.proofs.Rounds.{round-few, round-starts, round-bounds, round-apart, round-turn, round-end}
 use Rattle.tighten.proofs.lists.tighten_lists.Statement.{statement}
 use Rattle.tighten.proofs.lists.tighten_lists.Tie as tie
 
@@ -22,18 +22,18 @@ abbrev μ-loop : tie.MeasureT-loop
 abbrev start : tie.At-loop Inv-loop μ-loop → tie.Start Inv-loop μ-loop
 start t = t .before .before .before .before .before
 
-tighten-at-requires : tie.Need-tighten-at-requires Inv-loop μ-loop
-tighten-at-requires c κs =
+tighten-list-requires : tie.Need-tighten-list-requires Inv-loop μ-loop
+tighten-list-requires c κs =
     let t = c .before .before .before .before in
     let p = start t .pre in
     let e = c .before .start-at .ensures in
-    (p .0, (round-bounds (p .0) (p .1) (t .loop .inv) (omega arith) e, round-sound (p .0) (p .1) (t .loop .inv) (omega arith) e))
+    (p .0, (round-bounds (p .0) (p .1) (t .loop .inv) (omega arith) e, round-apart (p .0) (p .1) (t .loop .inv) (omega arith) e))
 
 loop-again : tie.Need-loop-again Inv-loop μ-loop
 loop-again c =
     let t = c .before .before .before .before .before .before .before in
     let p = start t .pre in
-    round-turn (p .0) (p .1) (t .loop .inv) (omega arith) (c .before .before .before .before .start-at .ensures) refl refl (c .before .before .tighten-at .ensures)
+    round-turn (p .0) (p .1) (t .loop .inv) (omega arith) (c .before .before .before .before .start-at .ensures) refl refl (c .before .before .tighten-list .ensures)
 
 pub tighten-lists-spec : {M : Type 1} → statement M
 tighten-lists-spec =
@@ -47,7 +47,7 @@ tighten-lists-spec =
     (λ c. let t = c .before .before .before in let p = start t .pre in let f = round-few (p .0) (p .1) (t .loop .inv) in search needs)
     (λ c. search needs)
     (λ c. let t = c .before .before .before in let p = start t .pre in round-starts (p .0) (p .1) (t .loop .inv) (omega arith))
-    tighten-at-requires
+    tighten-list-requires
     (λ c. search needs)
     (λ c. search needs)
     loop-again
