@@ -4,7 +4,7 @@ use mathlib.Core.Path.{_≡_, refl, sym, _∙_}
 use mathlib.Core.Bool.{Bool, true, false, cond, _&&_}
 use mathlib.Core.List.{List}
 use native.Mathlib.Omega.{arith}
-use borrow.Author.Tests.{lt-leb, eq-eqb, ne-eqb}
+use borrow.Author.Tests.{lt-leb}
 use lib.Dec.{leb}
 use lib.ListN.{length, getD}
 use Rattle.laws.specs.Joined.{chosen}
@@ -114,13 +114,6 @@ shared-of d false = let e : (2 * d) % 2 ≡ 0 = omega arith in rw e
 
 pub reach-of : (last : List ℕ) (d : ℕ) (whole : Bool) → reach last (posting d whole) ≡ cond whole (entry last d) d
 reach-of last d whole = rw (shared-of d whole, device-of d whole)
-
--- the reach of a posting, by whether it is shared
-pub reach-shared : (last : List ℕ) (q : ℕ) → q % 2 ≡ 1 → reach last q ≡ entry last (device q)
-reach-shared last q p = rw (eq-eqb (q % 2) 1 p)
-
-pub reach-private : (last : List ℕ) (q : ℕ) → (q % 2 ≡ 1 → ⊥) → reach last q ≡ device q
-reach-private last q p = rw (ne-eqb (q % 2) 1 p)
 
 -- the reach of a posting, by where the branch of its device ends
 pub reach-at : (last : List ℕ) (q : ℕ) {d end r : ℕ} → d ≡ device q → end ≡ getD last (d - 1) 0 → r ≡ cond (shared q) end (device q) → r ≡ reach last q

@@ -5,8 +5,8 @@ use mathlib.Core.Bool.{Bool, true, false, cond, _||_, _&&_, or-assoc, or-false}
 use mathlib.Core.List.{List, [], _∷_, _++_, append-nil, append-assoc}
 use native.Mathlib.Omega.{arith}
 use native.Mathlib.Numerals.{add-one}
-use lib.ListN.{length, getD, drop, length-append, List·getD-append}
-use lib.Seq.{slice, getD-at, getD-append-add, getD-append-seam, take-append-seam, drop-append-seam}
+use lib.ListN.{length, getD, length-append, List·getD-append}
+use lib.Seq.{slice, getD-at, getD-append-add, take-append-seam, drop-append-seam}
 use Rattle.laws.specs.Search.{any}
 use Rattle.laws.specs.Tables.{entry}
 use Rattle.laws.specs.Joined.{joined, tabled, chosen}
@@ -87,9 +87,6 @@ module _ (part : ℕ → List ℕ) where
   pub joined-upto : (k n : ℕ) → k ≤ n → joined part n ≡ joined part k ++ joined (λ j. part (k + j)) (n - k)
   joined-upto k n u = let e : n ≡ k + (n - k) = omega arith in ap (joined part) e ∙ joined-split part k (n - k)
 
-  pub joined-rest : (k n : ℕ) → k ≤ n → drop (length (joined part k)) (joined part n) ≡ joined (λ j. part (k + j)) (n - k)
-  joined-rest k n u = rw (joined-upto k n u) (drop-append-seam (joined part k) (joined (λ j. part (k + j)) (n - k)))
-
   pub joined-longer : (k n : ℕ) → k ≤ n → length (joined part k) ≤ length (joined part n)
   joined-longer k n u = rw (joined-upto k n u) (simp length-append (omega arith))
 
@@ -97,12 +94,6 @@ module _ (part : ℕ → List ℕ) where
   pub joined-part : (n k : ℕ) → 1 ≤ k → k ≤ n → slice (length (joined part (k - 1))) (length (joined part k)) (joined part n) ≡ part k
   joined-part n k a b =
       rw (joined-upto k n b, take-append-seam (joined part k)) (rw (joined-last part k a) (drop-append-seam (joined part (k - 1)) (part k)))
-
-  -- a part of one entry
-  pub joined-at : (n k x : ℕ) → 1 ≤ k → k ≤ n → part k ≡ x ∷ [] → getD (joined part n) (length (joined part (k - 1))) 0 ≡ x
-  joined-at n k x a b p =
-      rw (joined-upto k n b, joined-last part k a, p, append-assoc (joined part (k - 1)) (x ∷ []) (joined (λ j. part (k + j)) (n - k)))
-      (getD-append-seam (joined part (k - 1)) x (joined (λ j. part (k + j)) (n - k)) 0)
 
   -- empty parts add nothing
   pub joined-still : (k n : ℕ) → k ≤ n → ((j : ℕ) → k < j → j ≤ n → part j ≡ []) → joined part n ≡ joined part k

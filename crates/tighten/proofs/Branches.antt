@@ -1,5 +1,5 @@
 -- Branches that carry a term throughout, and which devices have a posting in the tight list.
-use Prim.Native.Nat.{ℕ, _*_, _≤_, _<_}
+use Prim.Native.Nat.{ℕ, _≤_, _<_}
 use mathlib.Core.Path.{_≡_, sym, _∙_}
 use mathlib.Core.Bool.{Bool, true, false, cond, _&&_, not, and-true, and-false, true≢false}
 use mathlib.Core.List.{List, [], _∷_}
@@ -42,12 +42,6 @@ module _ (last : List ℕ) (has : ℕ → Bool) where
   pub posting-device : (d : ℕ) → device (posting-at last has d) ≡ d
   posting-device d = device-of d (whole last has d && not (leaf last d))
 
-  pub posting-whole : (d : ℕ) → whole last has d ≡ true → posting-at last has d ≡ posting d (not (leaf last d))
-  posting-whole d w = rw w
-
-  pub posting-alone : (d : ℕ) → whole last has d ≡ false → posting-at last has d ≡ 2 * d
-  posting-alone d w = rw w
-
   pub reach-whole : (d : ℕ) → whole last has d ≡ true → reach last (posting-at last has d) ≡ entry last d
   reach-whole d e = reach-of last d (whole last has d && not (leaf last d))
       ∙ rw e (either (leaf last d) (λ f. let z : entry last d ≡ d = omega flags in rw f (sym z)) (λ f. rw f))
@@ -67,7 +61,7 @@ module _ (last : List ℕ) (has : ℕ → Bool) where
   unfolding whole
   whole-of d h = simp tests (sym (any-none _ (λ e l u. simp tests (λ p. h e (omega arith) u (omega arith) (omega arith)))))
 
-  pub inside-of : (d e : ℕ) → (1 ≤ e) × (e ≤ length last) → (e < d) × (d ≤ entry last e) → whole last has e ≡ true → inside last has d ≡ true
+  inside-of : (d e : ℕ) → (1 ≤ e) × (e ≤ length last) → (e < d) × (d ≤ entry last e) → whole last has e ≡ true → inside last has d ≡ true
   unfolding inside
   inside-of d e r h p = sym (any-found _ e r (simp tests (omega arith, p)))
 
@@ -91,7 +85,7 @@ module _ {last : List ℕ} (F : Forest last) (has : ℕ → Bool) where
   posted-has d r p = either (whole last has d) (λ e. whole-own d r e) (λ e. rw e at p)
 
   -- the branches inside a whole one are whole
-  pub whole-in : (d e : ℕ) → (1 ≤ e) × (e ≤ length last) → (e ≤ d) × (d ≤ entry last e) → whole last has e ≡ true → whole last has d ≡ true
+  whole-in : (d e : ℕ) → (1 ≤ e) × (e ≤ length last) → (e ≤ d) × (d ≤ entry last e) → whole last has e ≡ true → whole last has d ≡ true
   whole-in d e r h p = whole-of last has d (λ x a b c u. whole-has last has x p (a, b) (omega arith, omega (arith, F .nested e d (r .0) (r .1) (h .0) (h .1))))
 
   -- a device in the branch of another, which is whole, has none

@@ -1,6 +1,6 @@
 -- The tight list carries its term to the same devices, and its devices rise with none redundant.
 use Prim.Native.Nat.{ℕ, _≤_}
-use mathlib.Core.Path.{_≡_, sym, _∙_, ap, fun-ext}
+use mathlib.Core.Path.{_≡_, sym, _∙_}
 use mathlib.Core.Bool.{Bool, true, false, _&&_, true≢false}
 use mathlib.Core.List.{List}
 use native.Mathlib.Omega.{arith}
@@ -32,17 +32,17 @@ in-plant {last} F l p d c =
     (λ e. let z : reach last (entry l i) ≡ device (entry l i) = rw e in omega arith)
 
 -- a posting of the tight list passes a test where that of a device does
-pub some-tight : (last : List ℕ) (has : ℕ → Bool) (f : ℕ → Bool) → some f (tight last has) ≡ any (length last) (λ e. posted last has e && f (posting-at last has e))
+some-tight : (last : List ℕ) (has : ℕ → Bool) (f : ℕ → Bool) → some f (tight last has) ≡ any (length last) (λ e. posted last has e && f (posting-at last has e))
 some-tight last has f = rw (tight-is last has) (some-chosen (posted last has) (posting-at last has) f (length last))
 
 -- the postings of the tight list, by device
-pub record Has (last : List ℕ) (has : ℕ → Bool) (f : ℕ → Bool) (e : ℕ) : Type 0 where
-  pub first : 1 ≤ e
-  pub upto : e ≤ length last
-  pub is : posted last has e ≡ true
-  pub passes : f (posting-at last has e) ≡ true
+record Has (last : List ℕ) (has : ℕ → Bool) (f : ℕ → Bool) (e : ℕ) : Type 0 where
+  first : 1 ≤ e
+  upto : e ≤ length last
+  is : posted last has e ≡ true
+  passes : f (posting-at last has e) ≡ true
 
-pub has-of : (last : List ℕ) (has : ℕ → Bool) (f : ℕ → Bool) → some f (tight last has) ≡ true → (e : ℕ) × Has last has f e
+has-of : (last : List ℕ) (has : ℕ → Bool) (f : ℕ → Bool) → some f (tight last has) ≡ true → (e : ℕ) × Has last has f e
 has-of last has f p =
     let L = lowest-of (λ e. posted last has e && f (posting-at last has e)) (length last) (sym (some-tight last has f) ∙ p) in
     let h = simp tests at (L .passes) in
@@ -92,8 +92,3 @@ module _ (last : List ℕ) (has : ℕ → Bool) where
   tight-placed = rw (tight-is last has) (chosen-placed (length last) device (posted last has) (posting-at last has) (length last)
       (λ d a b p. let v = posting-device last has d in (omega arith, omega arith))
       (λ d e a c b p q. let v = posting-device last has d in let w = posting-device last has e in omega arith))
-
--- tightening again changes nothing
-pub tight-again : {last : List ℕ} (F : Forest last) (has : ℕ → Bool) → ((d : ℕ) → has d ≡ true → (1 ≤ d) × (d ≤ length last))
-    → tight last (carried last (tight last has)) ≡ tight last has
-tight-again {last} F has dom = ap (tight last) (fun-ext (same-carriers F has dom))

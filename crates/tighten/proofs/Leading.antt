@@ -37,7 +37,7 @@ module _ (last : List ℕ) (has has′ : ℕ → Bool) (m : ℕ) (same : (e : �
         refuted _ (λ q. let t = simp tests at q in let z = ends′ x a v b (t .1) in omega arith) in
         p ∙ sym p′))
 
-    pub at-same : (e : ℕ) → m < e → postings-at last has e ≡ postings-at last has′ e
+    at-same : (e : ℕ) → m < e → postings-at last has e ≡ postings-at last has′ e
     at-same e u = rw (whole-same e u, inside-same e u, same e u)
 
 -- devices before d and d itself: none has the term but d, and those of its branch, up to m, where that is whole; beyond m, what `rest` has

@@ -5,6 +5,7 @@ mod Smallest
 pub mod Theorems
 mod Leading
 mod Apart
+mod Following
 mod Gathering
 mod Course
 mod Rounds

@@ -34,14 +34,18 @@ pub record Opens (last l : List ℕ) (d end : ℕ) : Type 0 where
   pub branch : end ≡ entry last d
   pub feeds : d < end
 
--- the first postings follow one another, up to `end` or to a device before it that the term is not carried beyond
+-- the first `count` postings follow one another: every device up to `until`, which is no further than `end`, carries the term
+pub record Running (last l : List ℕ) (end until count : ℕ) : Type 0 where
+  pub some : 1 ≤ count
+  pub within : count ≤ length l
+  pub is : until ≡ reach last (getD l (count - 1) 0)
+  pub most : until ≤ end
+  pub first : device (getD l 0 0) ≤ until
+  pub all : (d : ℕ) → device (getD l 0 0) ≤ d → d ≤ until → carried last l d ≡ true
+
+-- and there is no further one: it reaches the end, or the next device does not carry the term
 pub record Runs (last l : List ℕ) (end : ℕ) (r : Run) : Type 0 where
-  pub some : 1 ≤ r .count
-  pub within : r .count ≤ length l
-  pub is : r .until ≡ reach last (getD l (r .count - 1) 0)
-  pub most : r .until ≤ end
-  pub first : device (getD l 0 0) ≤ r .until
-  pub all : (d : ℕ) → device (getD l 0 0) ≤ d → d ≤ r .until → carried last l d ≡ true
+  pub running : Running last l end (r .until) (r .count)
   pub stop : r .until < end → carried last l (r .until + 1) ≡ false
 
 -- a posting takes the place of the first postings of a list: the tight list is that posting, and then the tight list of what is left

@@ -3,7 +3,7 @@ use Prim.Native.Nat.{_-_}
 use native.Mathlib.Omega.{arith}
 use borrow.Author.Needs.{needs}
 use lib.ListN.{length}
-use Rattle.tighten.proofs.Gathering.{Passing, passing-start, passing-turn, passing-found, passing-end}
+use Rattle.tighten.proofs.Following.{Passing, passing-start, passing-turn, passing-found, passing-end}
 use Rattle.tighten.proofs.list.past.Statement.{statement}
 use Rattle.tighten.proofs.list.past.Tie as tie
 

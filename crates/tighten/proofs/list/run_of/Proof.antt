@@ -3,7 +3,8 @@ use Prim.Native.Nat.{_-_}
 use native.Mathlib.Omega.{arith}
 use borrow.Author.Needs.{needs}
 use lib.ListN.{length}
-use Rattle.tighten.proofs.Gathering.{Running, running-start, running-turn, running-stop, running-few, running-past}
+use Rattle.tighten.specs.inner.List.{Running}
+use Rattle.tighten.proofs.Following.{running-start, running-turn, running-stop, running-few, running-past}
 use Rattle.tighten.proofs.list.run_of.Statement.{statement}
 use Rattle.tighten.proofs.list.run_of.Tie as tie
 
