@@ -1,7 +1,7 @@
 -- `table` reads within the entries.
 use Prim.Native.Nat.{_≤_, _-_}
-use Rattle.tighten_test.proofs.print.table.Statement.{statement}
-use Rattle.tighten_test.proofs.print.table.Tie as tie
+use Rattle.lists_test.proofs.print.table.Statement.{statement}
+use Rattle.lists_test.proofs.print.table.Tie as tie
 use borrow.Author.Needs.{needs}
 use lib.ListN.{length}
 
@@ -21,7 +21,6 @@ table-spec =
     (λ c. search needs)
     (λ c. search needs)
     (λ c. search needs)
-    (λ c κs. search needs)
     (λ c κs. search needs)
     (λ c. search needs)
     (λ c. search needs)

@@ -1,6 +1,6 @@
 -- `front` takes a part within its table.
-use Rattle.repair_test.proofs.made.front.Statement.{statement}
-use Rattle.repair_test.proofs.made.front.Tie as tie
+use Rattle.lists_test.proofs.repaired.front.Statement.{statement}
+use Rattle.lists_test.proofs.repaired.front.Tie as tie
 use borrow.Author.Needs.{needs}
 use lib.ListN.{length-take}
 use native.Mathlib.Omega.{arith}

@@ -1,7 +1,7 @@
-// Indexes that are refused, and some beside them that are not.
-use crate::plants::on_one;
-use crate::plants::on_two;
-use crate::run::run;
+// Indexes whose repair is refused, and some beside them that are repaired.
+use crate::repairing::on_one;
+use crate::repairing::on_two;
+use crate::repairing::repair_case;
 
 // The smallest examples of 41 and 44.
 pub fn smallest() {
@@ -26,7 +26,7 @@ pub fn devices() {
 pub fn order() {
     on_two(b"8 before 41", &mut [4, 2, 6], &mut [99; 3]);
     on_two(b"41 before 44", &mut [4, 4, 2], &mut []);
-    run(
+    repair_case(
         b"7 before 8",
         &[1],
         &[1],
@@ -36,7 +36,7 @@ pub fn order() {
         &mut [2, 0],
         &mut [99; 3],
     );
-    run(
+    repair_case(
         b"1 before all",
         &[9, 1],
         &[3],
@@ -50,7 +50,7 @@ pub fn order() {
 
 // A case of device tables, with a doubled posting.
 fn plant(name: &[u8], last: &[u16], root: &[u16], level: &[u8]) {
-    run(
+    repair_case(
         name,
         last,
         root,
@@ -72,7 +72,7 @@ pub fn plants() {
 
 // A case of terms and starts, with a doubled posting.
 fn outline(name: &[u8], terms: &[u16], starts: &mut [u32]) {
-    run(
+    repair_case(
         name,
         &[1],
         &[1],

@@ -1,11 +1,11 @@
-// Indexes that are refused, with lists that would otherwise shrink.
-use crate::plants::list_on_chain;
-use crate::plants::on_chain;
-use crate::run::run;
+// Indexes whose tightening is refused, with lists that would otherwise shrink.
+use crate::tightening::list_on_chain;
+use crate::tightening::on_chain;
+use crate::tightening::tighten_case;
 
 // A case of device tables.
 fn plant(name: &[u8], last: &[u16], root: &[u16], level: &[u8]) {
-    run(name, last, root, level, &[5], &mut [0], &mut [2, 4, 6]);
+    tighten_case(name, last, root, level, &[5], &mut [0], &mut [2, 4, 6]);
 }
 
 // 1 to 4.
@@ -40,7 +40,7 @@ pub fn lists() {
 pub fn order() {
     on_chain(b"7 before 8", &[5], &mut [1], &mut [2, 4, 6, 0]);
     on_chain(b"8 before 9", &[5, 6], &mut [0, 2], &mut [5, 6, 0]);
-    run(
+    tighten_case(
         b"1 before all",
         &[2, 9],
         &[3],

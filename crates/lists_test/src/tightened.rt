@@ -1,16 +1,16 @@
 // Indexes that are tightened.
-use crate::plants::list_on_chain;
-use crate::plants::list_on_p;
-use crate::plants::on_p;
-use crate::plants::write_p;
-use crate::run::run;
+use crate::plant_p::write_p;
+use crate::tightening::list_on_chain;
+use crate::tightening::list_on_p;
+use crate::tightening::tighten_case;
+use crate::tightening::tighten_on_p;
 
 // Term 7 with own 2, own 3 and own 5, and term 9 with own 4, own 5 and own 6. What is left is plant P.
 pub fn device_by_device() {
     let terms: [u16; 2] = [7, 9];
     let mut starts: [u32; 2] = [0, 3];
     let mut postings: [u32; 6] = [4, 6, 10, 8, 10, 12];
-    on_p(b"device by device", &terms, &mut starts, &mut postings);
+    tighten_on_p(b"device by device", &terms, &mut starts, &mut postings);
     write_p(&terms, &starts, &[postings[0], postings[1], postings[2]]);
 }
 
@@ -29,7 +29,7 @@ pub fn parts() {
 }
 
 pub fn trees() {
-    run(
+    tighten_case(
         b"two trees",
         &[2, 2, 4, 4],
         &[1, 1, 3, 3],
@@ -48,7 +48,7 @@ pub fn chains() {
 
 // The lists after one that shrinks start sooner, empty ones too.
 pub fn lists() {
-    on_p(
+    tighten_on_p(
         b"empty lists between and behind",
         &[1, 2, 3, 4],
         &mut [0, 3, 3, 5],
@@ -58,9 +58,9 @@ pub fn lists() {
 
 // Indexes that stay as they are.
 pub fn unchanged() {
-    on_p(b"tight", &[7, 9], &mut [0, 2], &mut [5, 10, 9]);
-    on_p(b"no marks", &[], &mut [], &mut []);
-    run(
+    tighten_on_p(b"tight", &[7, 9], &mut [0, 2], &mut [5, 10, 9]);
+    tighten_on_p(b"no marks", &[], &mut [], &mut []);
+    tighten_case(
         b"no devices, a mark",
         &[],
         &[],

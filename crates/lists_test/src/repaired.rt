@@ -1,8 +1,8 @@
 // Indexes that are repaired.
-use crate::plants::on_one;
-use crate::plants::on_p;
-use crate::plants::write_p;
-use crate::run::run;
+use crate::plant_p::write_p;
+use crate::repairing::on_one;
+use crate::repairing::repair_case;
+use crate::repairing::repair_on_p;
 use integers::least;
 use repair::Repaired;
 
@@ -25,7 +25,7 @@ pub fn typed_by_hand() {
     let mut starts: [u32; 2] = [0, 5];
     let mut postings: [u32; 7] = [4, 5, 6, 10, 10, 9, 12];
     let mut report: [u32; 14] = [99; 14];
-    let r = on_p(
+    let r = repair_on_p(
         b"typed by hand",
         &terms,
         &mut starts,
@@ -37,14 +37,14 @@ pub fn typed_by_hand() {
 
 // An index with nothing to drop, and an empty one.
 pub fn clean() {
-    on_p(
+    repair_on_p(
         b"clean, no report",
         &[7, 9],
         &mut [0, 2],
         &mut [5, 10, 9],
         &mut [],
     );
-    run(
+    repair_case(
         b"no devices, no marks",
         &[],
         &[],
@@ -58,7 +58,7 @@ pub fn clean() {
 
 // Of several postings for a device the first shared one stays, else the first; and of those in the branch of a shared one, none.
 pub fn doubled() {
-    on_p(
+    repair_on_p(
         b"own, own, all, own, all of device 4",
         &[7],
         &mut [0],
@@ -66,7 +66,7 @@ pub fn doubled() {
         &mut [99; 14],
     );
     on_one(b"all, all", &mut [3, 3], &mut [99; 3]);
-    run(
+    repair_case(
         b"a branch in a branch",
         &[3, 3, 3],
         &[1, 1, 1],
@@ -80,7 +80,7 @@ pub fn doubled() {
 
 // The lists after one that loses a posting start sooner, an empty one too.
 pub fn lists() {
-    run(
+    repair_case(
         b"an empty list between two",
         &[1, 2],
         &[1, 2],
