@@ -15,7 +15,7 @@ ghost use Rattle.index.specs.Postings.{device, reach};
 ghost use Rattle.index.specs.inner.Laying.{ListPut};
 ghost use Rattle.tighten.specs.Tight.{tight};
 ghost use Rattle.tighten.specs.inner.Branches.{carried, Forest};
-ghost use Rattle.tighten.specs.inner.List.{Apart, RunsTo, Known, Opens, Runs, Leads, Bounds};
+ghost use Rattle.tighten.specs.inner.List.{Apart, Known, Opens, Runs, Leads, Bounds};
 
 // A posting of the tight list, how many postings of the list it takes the place of, and up to where devices are known to carry the term.
 pub struct Lead {
@@ -132,30 +132,8 @@ fn past(list: &[u32], end: usize) -> usize
     i
 }
 
-// The first posting of the tight list, where a run is known that the device of the first posting lies in.
-fn lead_within(last: &[u16], list: &[u32], d: usize, end: usize, until: usize) -> Lead
-    requires { ⌜ Forest (now last) ⌝ }
-    requires { ⌜ Apart (now last) (now list) ⌝ }
-    requires { ⌜ Opens (now last) (now list) d end ⌝ }
-    requires { ⌜ RunsTo (now last) (now list) until ⌝ }
-    ensures { λ r. ⌜ Leads (now (last .entry)) (now (list .entry)) r ⌝ }
-{
-    let posting = list[0];
-    if until < end {
-        return Lead {
-            posting,
-            taken: 1,
-            until,
-        };
-    }
-    Lead {
-        posting: posting + 1,
-        taken: past(list, end),
-        until,
-    }
-}
-
-// The same where a run may be known: it is for a whole branch where the run reaches the branch's end.
+// The first posting of the tight list, where something may be gathered: it is for a whole branch where the run, known or found, reaches the
+// branch's end.
 fn gather(last: &[u16], list: &[u32], d: usize, end: usize, until: usize) -> Lead
     requires { ⌜ Forest (now last) ⌝ }
     requires { ⌜ Apart (now last) (now list) ⌝ }
@@ -163,10 +141,21 @@ fn gather(last: &[u16], list: &[u32], d: usize, end: usize, until: usize) -> Lea
     requires { ⌜ Known (now last) (now list) until ⌝ }
     ensures { λ r. ⌜ Leads (now (last .entry)) (now (list .entry)) r ⌝ }
 {
-    if d <= until {
-        return lead_within(last, list, d, end, until);
-    }
     let posting = list[0];
+    if end <= until {
+        return Lead {
+            posting: posting + 1,
+            taken: past(list, end),
+            until,
+        };
+    }
+    if d <= until {
+        return Lead {
+            posting,
+            taken: 1,
+            until,
+        };
+    }
     let run = run_of(last, list, d, end);
     let reached = run.until;
     if reached < end {
