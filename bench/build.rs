@@ -1,5 +1,7 @@
-//! Finds the archive that `rt staticlib c_api` makes, and the two peers (packages libroaring-dev and libsqlite3-dev).
+//! Finds the archive that `rt staticlib c_api` makes, and the two peers (packages libroaring-dev and libsqlite3-dev). Where
+//! PLANT_SEARCH_BEFORE names the archive of landing 11, its search is linked too, to be timed beside today's.
 use std::path::Path;
+use std::process::Command;
 
 fn main() {
     let here = std::env::var("CARGO_MANIFEST_DIR").unwrap();
@@ -13,4 +15,25 @@ fn main() {
     println!("cargo:rustc-link-lib=static=c_api");
     println!("cargo:rustc-link-lib=roaring");
     println!("cargo:rustc-link-lib=sqlite3");
+    println!("cargo:rustc-check-cfg=cfg(before)");
+    println!("cargo:rerun-if-env-changed=PLANT_SEARCH_BEFORE");
+    if let Ok(before) = std::env::var("PLANT_SEARCH_BEFORE") {
+        link_before(&before);
+    }
+}
+
+/// Links the search of an older archive under another name, with all that it needs out of sight.
+fn link_before(archive: &str) {
+    println!("cargo:rerun-if-changed={archive}");
+    let object = format!("{}/before.o", std::env::var("OUT_DIR").unwrap());
+    run("ld", &["-r", "-u", "plant_search_search", "-o", &object, archive]);
+    run("objcopy", &["--keep-global-symbol=plant_search_search", &object]);
+    run("objcopy", &["--redefine-sym", "plant_search_search=plant_search_search_before", &object]);
+    println!("cargo:rustc-link-arg={object}");
+    println!("cargo:rustc-cfg=before");
+}
+
+fn run(program: &str, words: &[&str]) {
+    let status = Command::new(program).args(words).status();
+    assert!(status.is_ok_and(|status| status.success()), "{program} did not work");
 }

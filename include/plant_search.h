@@ -31,9 +31,13 @@ uint32_t plant_search_check(
     const uint32_t *starts, size_t starts_length,
     const uint32_t *postings, size_t postings_length);
 
-/* Searches: the lowest of refusals 1 to 14 that applies, or 0. The tables are checked in each call.
+/* Searches two indexes: the first refusal that applies, or 0. The tables are checked in each call: devices 1 to 4, first index 5
+ * to 9, second index 55 to 59 by the same rules, 15, then the query 10 to 14, in this order.
  *
- * required, forbidden: the terms that a device must carry, and those that it must not; more than 8 of either is refusal 10.
+ * terms, starts, postings: the first index, for terms below 32,768. second_terms, second_starts, second_postings: the second, for
+ * terms from 32,768 up, over the same devices; lists of length 0 where there is none. 15: a term that is in the wrong index.
+ * required, forbidden: the terms that a device must carry, and those that it must not; more than 8 of either is refusal 10. A
+ * term that its index does not have is on no device.
  * ranged: 0 for any level code, and low and high are not looked at; else only codes low to high. Levels are 1 to 254, and codes
  * 0 and 255 lie in no range: a low of 0, a high above 254 or a low above high is refusal 12.
  * start: the device to begin at. budget: the most moves that the cursors may make.
@@ -51,6 +55,9 @@ uint32_t plant_search_search(
     const uint16_t *terms, size_t terms_length,
     const uint32_t *starts, size_t starts_length,
     const uint32_t *postings, size_t postings_length,
+    const uint16_t *second_terms, size_t second_terms_length,
+    const uint32_t *second_starts, size_t second_starts_length,
+    const uint32_t *second_postings, size_t second_postings_length,
     const uint32_t *required, size_t required_length,
     const uint32_t *forbidden, size_t forbidden_length,
     uint32_t ranged, uint32_t low, uint32_t high,

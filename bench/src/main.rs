@@ -1,9 +1,11 @@
 //! Times the proved search beside plain Rust and other ways to the same listing, and writes docs/BENCHMARK.md.
 //!
 //! `bench` times; `bench quick` shows rough figures and writes nothing, `bench read` those of reading and writing alone,
-//! `bench repair` those of repairing and `bench tighten` those of tightening; `bench count common`, `bench count any`,
-//! `bench count read`, `bench count write`, `bench count repair` and `bench count tighten` make each call a fixed number of times,
-//! for callgrind to count instructions.
+//! `bench repair` those of repairing, `bench tighten` those of tightening and `bench second` those of a second index;
+//! `bench count common`, `bench count any`, `bench count small`, `bench count read`, `bench count write`, `bench count repair` and
+//! `bench count tighten` make each call a fixed number of times, for callgrind to count instructions.
+#[cfg(before)]
+mod before;
 #[allow(dead_code)]
 #[path = "../../tests/outside/src/ffi.rs"]
 mod ffi;
@@ -25,6 +27,7 @@ mod repairing;
 mod report;
 mod respond;
 mod roaring;
+mod second;
 mod sqlite;
 mod texts;
 mod tightener;
@@ -39,10 +42,11 @@ use plants::{Kind, Size, KINDS};
 use random::Random;
 use reading::{Pair, Reading};
 use repairing::Repairing;
+use second::{Second, BEFORE};
 use std::hint::black_box;
 use tightening::{Saved, Tightening};
 use time::{clock, seconds, Least, Rounds, Times};
-use ways::{checks_agree, few, proved_steps, Checks, Moves, Taken, Ways};
+use ways::{checks_agree, few, proved_search, proved_steps, Checks, Moves, Taken, Ways};
 use writing::Writing;
 
 const MISSION: Size = Size(1_024, 256, 4_096);
@@ -59,6 +63,7 @@ pub struct Page {
     pub repaired: Vec<Repairing>,
     pub tightened: Vec<Tightening>,
     pub saved: [Saved; 2],
+    pub second: [Second; 3],
     pub growth: Vec<Growth>,
     pub skips: Vec<Skip>,
 }
@@ -189,7 +194,7 @@ fn skips() -> Vec<Skip> {
         let (t, q) = skipping(long);
         let mut answer = vec![0; t.size()];
         let found @ Answer { moves, passed, .. } = plain::search(&t, &q, &mut answer);
-        assert_eq!(ffi::search(&t, &q, &mut answer), found);
+        assert_eq!(proved_search(&t, &q, &mut answer), found);
         let (mut proved, mut plain) = (Rounds::default(), Rounds::default());
         for round in 0..600 {
             proved.push(proved_steps(&t, &q, &mut answer, round));
@@ -201,15 +206,21 @@ fn skips() -> Vec<Skip> {
     rows
 }
 
-/// Forty queries of each kind, each call made once, for a count of instructions.
-fn count(common: bool) {
+/// Over a plant of the mission's size.
+fn count_at_mission(common: bool) {
     let mut r = Random(7);
     let tables = plants::plant(&mut r, MISSION);
-    let mut answer = vec![0; MISSION.0];
+    count(r, tables, common);
+}
+
+/// Forty queries of each kind, each call made once, for a count of instructions.
+fn count(mut r: Random, tables: Tables, common: bool) {
+    let mut answer = vec![0; tables.size()];
     for kind in KINDS {
         for q in plants::queries(&mut r, &tables, kind, common, 40) {
             black_box(ffi::check(black_box(&tables)));
-            black_box(ffi::search(&tables, black_box(&q), &mut answer));
+            black_box(proved_search(&tables, black_box(&q), &mut answer));
+            black_box(BEFORE.map(|search| search(&tables, black_box(&q), &mut answer)));
             black_box(plain::check(black_box(&tables)));
             black_box(plain::check_in_two_passes(black_box(&tables)));
             black_box(plain::steps(&tables, black_box(&q), &mut answer));
@@ -243,18 +254,30 @@ fn saved() -> [Saved; 2] {
     [tightening::saved("the mission's size", MISSION, 40), tightening::saved("the limits", LIMITS, 12)]
 }
 
+/// A second index, over document 01's plant P and at both sizes.
+fn in_two(rounds: usize) -> [Second; 3] {
+    let plant = |size: Size| plants::plant(&mut Random(7), size);
+    [
+        second::measure("document 01's plant P", second::small(), second::Effort { queries: 10, rounds: 10 * rounds, calls: 20 }),
+        second::measure("the mission's size", plant(MISSION), second::Effort { queries: 20, rounds, calls: 1 }),
+        second::measure("the limits", plant(LIMITS), second::Effort { queries: 2, rounds: rounds / 4, calls: 1 }),
+    ]
+}
+
 fn main() {
     let words: Vec<String> = std::env::args().skip(1).collect();
     let words: Vec<&str> = words.iter().map(String::as_str).collect();
     let (mission, limits, readings) = match words[..] {
-        ["count", "common"] => return count(true),
-        ["count", "any"] => return count(false),
+        ["count", "common"] => return count_at_mission(true),
+        ["count", "any"] => return count_at_mission(false),
+        ["count", "small"] => return count(Random(7), second::small(), true),
         ["count", "read"] => return reading::count(MISSION),
         ["count", "write"] => return writing::count(MISSION),
         ["count", "repair"] => return repairing::count(MISSION),
         ["count", "tighten"] => return tightening::count(MISSION),
         ["repair"] => return print!("{}", report::repairing(&repaired(60))),
         ["tighten"] => return print!("{}", report::tightening(&tightened(60), &saved())),
+        ["second"] => return print!("{}", report::second(&in_two(200))),
         ["read"] => {
             let read = report::reading(MISSION, &reading::measure(MISSION, 60), reading::printing());
             return print!("{read}{}", report::writing(&written(60)));
@@ -266,7 +289,7 @@ fn main() {
             let limits = Effort { queries: 12, passes: 5, whole: 2, steps: 30 };
             (Effort { queries: 40, passes: 10, whole: 25, steps: 40 }, limits, 200)
         }
-        _ => panic!("usage: bench [quick | read | repair | tighten | count common|any|read|write|repair|tighten]"),
+        _ => panic!("usage: bench [quick | read | repair | tighten | second | count common|any|small|read|write|repair|tighten]"),
     };
     let text = report::whole(&Page {
         measured: [measure("the mission's size", MISSION, mission), measure("the limits", LIMITS, limits)],
@@ -275,6 +298,7 @@ fn main() {
         repaired: repaired(readings),
         tightened: tightened(readings),
         saved: saved(),
+        second: in_two(readings),
         printing: reading::printing(),
         growth: growth(),
         skips: skips(),

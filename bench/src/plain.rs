@@ -1,5 +1,8 @@
 //! The same checks and cursor steps in plain Rust, as one would write them without proofs.
-use crate::paper::{Answer, Query, Tables};
+use crate::paper::{Answer, Index, Query, Tables};
+
+/// The least term of the second index.
+pub const SECOND: u16 = 32_768;
 
 pub fn device(posting: u32) -> usize {
     (posting >> 1) as usize
@@ -15,12 +18,43 @@ pub fn reach(last: &[u16], posting: u32) -> usize {
     }
 }
 
+/// The lists of one of the two indexes.
+#[derive(Clone, Copy)]
+struct Lists<'a> {
+    terms: &'a [u16],
+    starts: &'a [u32],
+    postings: &'a [u32],
+}
+
+impl<'a> Lists<'a> {
+    fn first(t: &'a Tables) -> Lists<'a> {
+        Lists { terms: &t.terms, starts: &t.starts, postings: &t.postings }
+    }
+
+    fn second(index: &'a Index) -> Lists<'a> {
+        Lists { terms: &index.terms, starts: &index.starts, postings: &index.postings }
+    }
+
+    /// The list of the term at index k.
+    fn list(self, k: usize) -> &'a [u32] {
+        let end = self.starts.get(k + 1).map_or(self.postings.len(), |&s| s as usize);
+        &self.postings[self.starts[k] as usize..end]
+    }
+
+    fn list_of(self, term: u32) -> &'a [u32] {
+        match self.terms.binary_search(&(term as u16)) {
+            Ok(k) => self.list(k),
+            Err(_) => &[],
+        }
+    }
+}
+
 /// Refusals 1 to 9. Accepted branches are gone through once for 2 and 3, and an accepted index once for 8 and 9; only where such
 /// a pass finds a fault do two more tell which it is.
 #[inline(never)]
 pub fn check(t: &Tables) -> u32 {
     match check_but_postings(t) {
-        0 if (0..t.starts.len()).any(|k| at_fault(&t.last, list(t, k))) => check_postings(t),
+        0 => check_lists(&t.last, Lists::first(t)),
         number => number,
     }
 }
@@ -29,9 +63,25 @@ pub fn check(t: &Tables) -> u32 {
 #[inline(never)]
 pub fn check_in_two_passes(t: &Tables) -> u32 {
     match check_before_postings(t, check_branches) {
-        0 => check_postings(t),
+        0 => check_postings(&t.last, Lists::first(t)),
         number => number,
     }
+}
+
+/// The second index's refusals, 55 to 59, and 15. Terms rise, so the last of the first index and the first of the second tell
+/// whether one is in the wrong index.
+fn check_second(t: &Tables, second: Lists) -> u32 {
+    let refused = match check_terms(second) {
+        0 => check_lists(&t.last, second),
+        number => number,
+    };
+    if refused != 0 {
+        return 50 + refused;
+    }
+    if t.terms.last().is_some_and(|&x| x >= SECOND) || second.terms.first().is_some_and(|&x| x < SECOND) {
+        return 15;
+    }
+    0
 }
 
 /// Refusals 1 to 7, with accepted branches gone through once. This and the next are compiled into each caller.
@@ -54,15 +104,21 @@ fn check_before_postings(t: &Tables, branches: impl Fn(&[u16]) -> u32) -> u32 {
     if wrong_root(&t.last, &t.root) {
         return 4;
     }
-    if t.starts.len() != t.terms.len() || t.terms.len() > 8_192 || t.postings.len() > 1_048_576 {
+    check_terms(Lists::first(t))
+}
+
+/// Refusals 5 to 7.
+#[inline(always)]
+fn check_terms(Lists { terms, starts, postings }: Lists) -> u32 {
+    if starts.len() != terms.len() || terms.len() > 8_192 || postings.len() > 1_048_576 {
         return 5;
     }
-    if t.terms.first() == Some(&0) || t.terms.windows(2).any(|w| w[1] <= w[0]) {
+    if terms.first() == Some(&0) || terms.windows(2).any(|w| w[1] <= w[0]) {
         return 6;
     }
-    let first = t.starts.first().map_or(t.postings.len(), |&s| s as usize);
-    let end = t.starts.last().map_or(0, |&s| s as usize);
-    if first != 0 || end > t.postings.len() || t.starts.windows(2).any(|w| w[1] < w[0]) {
+    let first = starts.first().map_or(postings.len(), |&s| s as usize);
+    let end = starts.last().map_or(0, |&s| s as usize);
+    if first != 0 || end > postings.len() || starts.windows(2).any(|w| w[1] < w[0]) {
         return 7;
     }
     0
@@ -91,12 +147,21 @@ fn check_branches_at_once(last: &[u16]) -> u32 {
     0
 }
 
+/// Refusals 8 and 9, where accepted postings are gone through once.
+#[inline(always)]
+fn check_lists(last: &[u16], index: Lists) -> u32 {
+    if (0..index.starts.len()).any(|k| at_fault(last, index.list(k))) {
+        return check_postings(last, index);
+    }
+    0
+}
+
 /// Refusals 8 and 9, each in one pass.
-fn check_postings(t: &Tables) -> u32 {
-    if (0..t.starts.len()).any(|k| misplaced(t.last.len(), list(t, k))) {
+fn check_postings(last: &[u16], index: Lists) -> u32 {
+    if (0..index.starts.len()).any(|k| misplaced(last.len(), index.list(k))) {
         return 8;
     }
-    if (0..t.starts.len()).any(|k| redundant(&t.last, list(t, k))) {
+    if (0..index.starts.len()).any(|k| redundant(last, index.list(k))) {
         return 9;
     }
     0
@@ -164,17 +229,14 @@ fn redundant(last: &[u16], list: &[u32]) -> bool {
     false
 }
 
-/// The list of the term at index k.
+/// The list of the first index's term at index k.
 pub fn list(t: &Tables, k: usize) -> &[u32] {
-    let end = t.starts.get(k + 1).map_or(t.postings.len(), |&s| s as usize);
-    &t.postings[t.starts[k] as usize..end]
+    Lists::first(t).list(k)
 }
 
+/// The first index's list of a term.
 pub fn list_of(t: &Tables, term: u32) -> &[u32] {
-    match t.terms.binary_search(&(term as u16)) {
-        Ok(k) => list(t, k),
-        Err(_) => &[],
-    }
+    Lists::first(t).list_of(term)
 }
 
 /// The first index from `from` on whose device is at least `target`: doubling steps, then halving.
@@ -269,33 +331,49 @@ fn refusal(t: &Tables, q: &Query, room: usize) -> u32 {
     0
 }
 
-/// The search call whole: refusals 1 to 14, then the steps.
+/// The search call whole, with an empty second index.
 pub fn search(t: &Tables, q: &Query, answer: &mut [u16]) -> Answer {
-    let refused = check(t);
-    if refused != 0 {
-        return Answer { refusal: refused, ..Answer::default() };
+    search_in_two(t, &Index::default(), q, answer)
+}
+
+/// The search call whole: every refusal, then the steps.
+pub fn search_in_two(t: &Tables, second: &Index, q: &Query, answer: &mut [u16]) -> Answer {
+    let refusal = match check(t) {
+        0 => check_second(t, Lists::second(second)),
+        number => number,
+    };
+    if refusal != 0 {
+        return Answer { refusal, ..Answer::default() };
     }
-    steps(t, q, answer)
+    steps_in_two(t, second, q, answer)
 }
 
 /// Cursors of terms, each on the first posting of its list; the rest of the eight are on empty lists.
-fn cursors<'a>(t: &'a Tables, terms: &[u32]) -> [Cursor<'a>; 8] {
+fn cursors<'a>(first: Lists<'a>, second: Lists<'a>, terms: &[u32]) -> [Cursor<'a>; 8] {
     let mut cursors = [Cursor { list: &[], at: 0 }; 8];
     for (cursor, &term) in cursors.iter_mut().zip(terms) {
-        cursor.list = list_of(t, term);
+        let index = if term < SECOND as u32 { first } else { second };
+        cursor.list = index.list_of(term);
     }
     cursors
+}
+
+/// The steps with an empty second index.
+#[inline(always)]
+pub fn steps(t: &Tables, q: &Query, answer: &mut [u16]) -> Answer {
+    steps_in_two(t, &Index::default(), q, answer)
 }
 
 /// The query's own refusals and the steps, for tables that were checked. Where every cursor passes, so do all positions up to
 /// the first at which one has to move or changes: they are listed at once.
 #[inline(never)]
-pub fn steps(t: &Tables, q: &Query, answer: &mut [u16]) -> Answer {
+pub fn steps_in_two(t: &Tables, second: &Index, q: &Query, answer: &mut [u16]) -> Answer {
     let refusal = refusal(t, q, answer.len());
     if refusal != 0 {
         return Answer { refusal, ..Answer::default() };
     }
-    let (mut required, mut forbidden) = (cursors(t, &q.required), cursors(t, &q.forbidden));
+    let (first, second) = (Lists::first(t), Lists::second(second));
+    let (mut required, mut forbidden) = (cursors(first, second, &q.required), cursors(first, second, &q.forbidden));
     let required = &mut required[..q.required.len()];
     let forbidden = &mut forbidden[..q.forbidden.len()];
     let n = t.last.len();

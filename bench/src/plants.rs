@@ -1,5 +1,6 @@
 //! Plants of exact sizes, and queries over them.
 use crate::paper::{device_of, Query, Tables};
+use crate::plain::SECOND;
 use crate::random::Random;
 
 /// Devices, terms, postings.
@@ -121,8 +122,9 @@ fn plant_with(r: &mut Random, Size(n, terms, postings): Size, list: MakeList) ->
         lists.swap(k, r.below(k + 1));
     }
     let mut term = 0;
-    for list in lists {
-        term += r.between(1, 65_535 / terms);
+    for (k, list) in lists.into_iter().enumerate() {
+        // numbers are left for the terms that follow, below those of a second index
+        term = (term + r.between(1, 65_535 / terms)).min(SECOND as usize + k - terms);
         t.terms.push(term as u16);
         t.starts.push(t.postings.len() as u32);
         t.postings.extend(list);

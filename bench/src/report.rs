@@ -2,6 +2,7 @@
 use crate::plants::Size;
 use crate::reading::{Pair, Reading};
 use crate::repairing::Repairing;
+use crate::second::Second;
 use crate::tightening::{self, Saved, Tightening};
 use crate::time::Times;
 use crate::writing::Writing;
@@ -12,6 +13,8 @@ use std::fmt::Write;
 const MOST: f64 = 1.1;
 /// The most that a check may take, in times of the plain one in two passes.
 const MOST_OF_TWO_PASSES: f64 = 0.75;
+/// The most that a call with an empty second index may take, in times of the call before there was one.
+const MOST_OF_BEFORE: f64 = 1.02;
 
 /// A number with commas.
 fn commas(n: usize) -> String {
@@ -28,6 +31,11 @@ fn commas(n: usize) -> String {
 
 fn micro(seconds: f64) -> String {
     format!("{:.2}", seconds * 1e6)
+}
+
+/// The same to the nanosecond, for short calls.
+fn nano(seconds: f64) -> String {
+    format!("{:.3}", seconds * 1e6)
 }
 
 fn size(Size(n, terms, postings): Size) -> String {
@@ -293,6 +301,51 @@ fn tightening_goals(tightened: &[Tightening]) -> String {
     out
 }
 
+/// What an empty second index costs, and what the same notes in two indexes do.
+pub fn second(rows: &[Second]) -> String {
+    let mut out = String::from("\n## A second index\n\n");
+    out += "The call whole, over the notes in one index and in two: every fourth term was put into the second with its list, ";
+    out += "its number 32,768 higher. The moves, those of all queries together, are the same.\n";
+    let in_second = ["", "terms in the second", "postings in the second", "moves"];
+    let times = ["one index, plain µs", "proved µs", "two, plain µs", "proved µs", "two, proved / plain", "proved, two / one"];
+    out += &head(&[&in_second[..], &times[..]].concat());
+    for Second { name, moved: [terms, postings], moves, empty, two, .. } in rows {
+        let numbers = [*terms, *postings, *moves as usize].map(commas).join(" | ");
+        let times = [empty.plain, empty.proved, two.plain, two.proved].map(nano).join(" | ");
+        let ratios = format!("**{:.2}** | {:.2}", two.proved / two.plain, two.proved / empty.proved);
+        writeln!(out, "| {name} | {numbers} | {times} | {ratios} |").unwrap();
+    }
+    if rows.iter().any(|row| row.before.is_some()) {
+        out += "\nThe same calls with an empty second index, and those of the library before there was one:\n";
+        out += &head(&["", "before µs", "empty second index µs", "empty / before"]);
+    }
+    for (name, before, empty) in beside_before(rows) {
+        writeln!(out, "| {name} | {} | {} | **{:.3}** |", nano(before), nano(empty), empty / before).unwrap();
+    }
+    out
+}
+
+/// The rows that have a time of the library before: name, that time, and the time with an empty second index.
+fn beside_before(rows: &[Second]) -> impl Iterator<Item = (&'static str, f64, f64)> + '_ {
+    rows.iter().filter_map(|row| Some((row.name, row.before?, row.empty.proved)))
+}
+
+/// The goals are for the two sizes, and not for the small plant.
+fn second_goals(rows: &[Second]) -> String {
+    let mut out = String::from("\n### Goals for a second index\n");
+    out += &head(&["a call", "ratio", "at most", "goal"]);
+    for Second { name, two: Pair { plain, proved }, .. } in rows {
+        let ratio = proved / plain;
+        writeln!(out, "| {name}, two indexes, proved / plain | {ratio:.2} | {MOST:.2} | {} |", met(ratio, MOST)).unwrap();
+    }
+    for (name, before, empty) in beside_before(rows) {
+        let ratio = empty / before;
+        let goal = format!("{ratio:.3} | {MOST_OF_BEFORE:.2} | {}", met(ratio, MOST_OF_BEFORE));
+        writeln!(out, "| {name}, an empty second index / before | {goal} |").unwrap();
+    }
+    out
+}
+
 fn tables_grow(growth: &[Growth]) -> String {
     let mut out = String::from("\n## The check grows with the tables\n");
     out += &head(&["tables", "plain µs", "proved µs", "proved / plain", "proved, ns for each device and posting"]);
@@ -324,6 +377,7 @@ pub fn whole(page: &Page) -> String {
     out += &writing(&page.written);
     out += &repairing(&page.repaired);
     out += &tightening(&page.tightened, &page.saved);
+    out += &second(&page.second);
     out += &tables_grow(&page.growth);
     out += &moves_skip(&page.skips);
     out += "\n## Sharing: the figures of document 000\n\n";
@@ -332,7 +386,8 @@ pub fn whole(page: &Page) -> String {
     out += &all(sharing);
     out += "\n";
     let mut goals = all(goals) + &reading_goal(&page.reading) + &writing_goals(&page.written);
-    goals += &(repairing_goals(&page.repaired) + &tightening_goals(&page.tightened) + &growing(&page.growth, &page.skips));
+    goals += &(repairing_goals(&page.repaired) + &tightening_goals(&page.tightened) + &second_goals(&page.second[1..]));
+    goals += &growing(&page.growth, &page.skips);
     out += &include_str!("../after.md").replace("{goals}", goals.trim());
     out
 }

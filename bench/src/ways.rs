@@ -1,5 +1,5 @@
 //! All ways to answer a query over one plant: that they agree, and how long each takes.
-use crate::paper::{device_of, Query, Tables};
+use crate::paper::{device_of, Answer, Index, Query, Tables};
 use crate::random::Random;
 use crate::time::{clock, seconds, Least, Rounds, Times};
 use crate::{ffi, plain, roaring, sqlite, unshared};
@@ -65,6 +65,11 @@ impl Taken {
     }
 }
 
+/// The proved search, with an empty second index.
+pub fn proved_search(t: &Tables, q: &Query, answer: &mut [u16]) -> Answer {
+    ffi::search(t, &Index::default(), q, answer)
+}
+
 /// The tables with every list emptied that the query does not name, and a branch kept only for roots and for devices that those
 /// lists have a posting at. The steps read the same entries, and the check is far shorter.
 pub fn few(t: &Tables, q: &Query) -> Tables {
@@ -100,7 +105,7 @@ impl Ways {
         let plain = plain::search(&self.tables, q, &mut expected);
         assert_eq!((plain.refusal, plain.position), (0, n as u32 + 1));
         let mut answer = vec![0; n];
-        assert_eq!(ffi::search(&self.tables, q, &mut answer), plain);
+        assert_eq!(proved_search(&self.tables, q, &mut answer), plain);
         assert_eq!(answer, expected);
         let few = few(&self.tables, q);
         assert_eq!(plain::search(&few, q, &mut answer), plain);
@@ -124,7 +129,7 @@ impl Ways {
         self.check.proved.of(|| ffi::check(black_box(t)));
         self.check.plain.of(|| plain::check(black_box(t)));
         self.check.two_passes.of(|| plain::check_in_two_passes(black_box(t)));
-        taken.call.of(|| ffi::search(t, black_box(q), &mut self.answer));
+        taken.call.of(|| proved_search(t, black_box(q), &mut self.answer));
         taken.plain_call.of(|| plain::search(t, black_box(q), &mut self.answer));
     }
 
@@ -202,11 +207,11 @@ pub fn checks_agree(t: &Tables) {
 pub fn proved_steps(t: &Tables, q: &Query, answer: &mut [u16], round: usize) -> f64 {
     let (mut check, mut search) = (0.0, 0.0);
     for half in [round, round + 1] {
-        black_box(ffi::search(t, black_box(q), answer));
+        black_box(proved_search(t, black_box(q), answer));
         if half % 2 == 0 {
             check = seconds(|| ffi::check(black_box(t)));
         } else {
-            search = seconds(|| ffi::search(t, black_box(q), answer));
+            search = seconds(|| proved_search(t, black_box(q), answer));
         }
     }
     search - check
@@ -222,7 +227,7 @@ fn agree_in_parts(t: &Tables, q: &Query, moves: u32) {
             let q = Query { budget, start: if start == 0 { stopped } else { start }, ..q.clone() };
             let (mut proved, mut plain) = (vec![7; t.size()], vec![7; t.size()]);
             let numbers = plain::search(t, &q, &mut plain);
-            assert_eq!(ffi::search(t, &q, &mut proved), numbers);
+            assert_eq!(proved_search(t, &q, &mut proved), numbers);
             assert_eq!(proved, plain);
             stopped = if start == 1 { numbers.position } else { stopped };
         }

@@ -5,6 +5,7 @@ use Prim.Native.Nat.{ℕ}
 use lib.ListN.{length}
 use Rattle.plant.specs.Plant.{Plant}
 use Rattle.index.specs.Index.{Index}
+use Rattle.two_indexes.specs.Indexes.{Indexes}
 use Rattle.query.specs.declared.Query.{Query}
 use Rattle.search.specs.Promises.{Searched}
 use Rattle.search.specs.declared.Answer.{Answer}
@@ -24,8 +25,8 @@ use Rattle.c_api.specs.Handing.{numbers-of, outcome-numbers}
 use Rattle.c_api.specs.Interface.{SearchHanded, PlantHanded, TextHanded, RepairHanded, TightenHanded}
 
 -- a search of the query that was handed over is a search of the same query, built anew
-pub search-handed : {P : Plant} {I : Index} {q Q : Query} {out out′ : List ℕ} {a : Answer} → q ≡ Q → Searched P I q out out′ a
-    → SearchHanded P I Q out out′ (numbers-of a) (a .refusal)
+pub search-handed : {P : Plant} {S : Indexes} {q Q : Query} {out out′ : List ℕ} {a : Answer} → q ≡ Q → Searched P S q out out′ a
+    → SearchHanded P S Q out out′ (numbers-of a) (a .refusal)
 search-handed same s =
     let t = rw same at s in
     record {
@@ -33,6 +34,7 @@ search-handed same s =
       numbers = ap numbers-of (t .answers);
       listing = t .lists;
       promised = t .promised;
+      over-both = t .over-both;
     }
 
 module _ {text : List ℕ} {P P′ : Plant} {I I′ : Index} {o : Outcome} where

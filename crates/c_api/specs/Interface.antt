@@ -5,9 +5,10 @@ use mathlib.Core.List.{List, [], _∷_}
 use lib.ListN.{length, take, getD}
 use Rattle.plant.specs.Plant.{Plant}
 use Rattle.index.specs.Index.{Index, tables-refusal}
+use Rattle.two_indexes.specs.Indexes.{Indexes, list-of}
 use Rattle.query.specs.declared.Query.{Query}
 use Rattle.search.specs.Answer.{answer, answer-list}
-use Rattle.search.specs.Promises.{Promised}
+use Rattle.search.specs.Promises.{Promised, OverBoth}
 use Rattle.plant_text.specs.PlantText.{outcome-number, outcome-after, plant-after, index-after}
 use Rattle.written_text.specs.Refusals.{write-refusal}
 use Rattle.written_text.specs.RoundTrip.{RoundTrips}
@@ -20,11 +21,12 @@ use Rattle.tighten.specs.Promises.{Tightens}
 use Rattle.c_api.specs.Handing.{numbers-of, outcome-numbers}
 
 -- `plant_search_search`: the refusal r, the four numbers beside it and the answer list, which was `out`
-pub record SearchHanded (P : Plant) (I : Index) (q : Query) (out out′ four : List ℕ) (r : ℕ) : Type 0 where
-  pub refusal : r ≡ answer P I q (length out) .refusal
-  pub numbers : four ≡ numbers-of (answer P I q (length out))
-  pub listing : out′ ≡ answer-list P I q out
-  pub promised : r ≡ 0 → Promised P I q (take (getD four 0 0) out′) (getD four 1 0) (getD four 2 0) (getD four 3 0)
+pub record SearchHanded (P : Plant) (S : Indexes) (q : Query) (out out′ four : List ℕ) (r : ℕ) : Type 0 where
+  pub refusal : r ≡ answer P S q (length out) .refusal
+  pub numbers : four ≡ numbers-of (answer P S q (length out))
+  pub listing : out′ ≡ answer-list P S q out
+  pub promised : r ≡ 0 → Promised P (list-of S) q (take (getD four 0 0) out′) (getD four 1 0) (getD four 2 0) (getD four 3 0)
+  pub over-both : OverBoth P S q (length out)
 
 -- `plant_search_read_plant`: the refusal r, the four numbers beside it and the tables, which were those of P and I
 pub record PlantHanded (text : List ℕ) (P : Plant) (I : Index) (P′ : Plant) (I′ : Index) (four : List ℕ) (r : ℕ) : Type 0 where

@@ -2,8 +2,8 @@
 // include/plant_search.h declares them.
 ghost use mathlib.Core.Path.{_≡_};
 ghost use Rattle.plant.specs.Plant.{plant};
-ghost use Rattle.index.specs.Index as indexes;
-ghost use Rattle.index.specs.Index.{index};
+ghost use Rattle.index.specs.Index.{index, tables-refusal};
+ghost use Rattle.two_indexes.specs.Indexes.{indexes};
 ghost use Rattle.query_text.specs.QueryText.{read-query};
 ghost use Rattle.respond.specs.Respond.{Responds};
 ghost use Rattle.c_api.specs.Handing.{levels-of, query-of, query-numbers};
@@ -31,24 +31,27 @@ pub extern "C" fn plant_search_check(
     starts: &[u32],
     postings: &[u32],
 ) -> u32
-    ensures { λ r. ⌜ r ≡ indexes.tables-refusal
+    ensures { λ r. ⌜ r ≡ tables-refusal
         (plant (now (last .entry)) (now (root .entry)) (now (level .entry)))
         (index (now (terms .entry)) (now (starts .entry)) (now (postings .entry))) ⌝ }
 {
     index::check(last, root, level, terms, starts, postings)
 }
 
-// Searches for the devices that carry all required terms and no forbidden one. Any level code is wanted where `ranged` is 0, else those of a
+// Searches two indexes for the devices that carry all required terms and no forbidden one. Any level code is wanted where `ranged` is 0, else those of a
 // range. The listing goes to the front of `out`; `numbers` is set to the number of devices listed, the position, the postings passed over and
 // the moves.
 #[no_mangle]
-pub extern "C" fn plant_search_search(
+pub extern "C" fn plant_search_search<'a>(
     last: &[u16],
     root: &[u16],
     level: &[u8],
     terms: &[u16],
     starts: &[u32],
-    postings: &[u32],
+    postings: &'a [u32],
+    second_terms: &[u16],
+    second_starts: &[u32],
+    second_postings: &'a [u32],
     required: &[u32],
     forbidden: &[u32],
     ranged: u32,
@@ -61,12 +64,26 @@ pub extern "C" fn plant_search_search(
 ) -> u32
     ensures { λ r. ⌜ SearchHanded
         (plant (now (last .entry)) (now (root .entry)) (now (level .entry)))
+        (indexes
         (index (now (terms .entry)) (now (starts .entry)) (now (postings .entry)))
+        (index (now («second_terms» .entry)) (now («second_starts» .entry)) (now («second_postings» .entry))))
         (query-of (now (required .entry)) (now (forbidden .entry)) (levels-of ranged low high) start budget)
         (now (out .entry)) (now (out .exit)) (now (numbers .exit)) r ⌝ }
 {
     let query = query_of(required, forbidden, ranged, low, high, start, budget);
-    let told = search::search(last, root, level, terms, starts, postings, query, out);
+    let told = search::search(
+        last,
+        root,
+        level,
+        terms,
+        starts,
+        postings,
+        second_terms,
+        second_starts,
+        second_postings,
+        query,
+        out,
+    );
     *numbers = [told.count, told.position, told.passed, told.moves];
     told.refusal
 }

@@ -1,4 +1,5 @@
 // Entries of tables, read and written, and what the evaluators share. An entry that is not there reads as 0.
+use crate::numbers::least;
 use crate::numbers::small;
 use crate::numbers::wide;
 use crate::numbers::wide8;
@@ -31,10 +32,29 @@ pub fn put16(table: &mut [u16; 16], i: u32, v: u32) {
     }
 }
 
-pub fn put32(table: &mut [u32; 32], i: u32, v: u32) {
-    if i < 32 {
+pub fn put32(table: &mut [u32; 64], i: u32, v: u32) {
+    if i < 64 {
         table[i as usize] = v;
     }
+}
+
+// The first n entries of a table, or all of it.
+fn cut16(s: &[u16], n: usize) -> &[u16] {
+    let m = least(n, s.len());
+    &s[..m]
+}
+
+pub fn front16(table: &[u16; 16], n: usize) -> &[u16] {
+    cut16(table, n)
+}
+
+fn cut32(s: &[u32], n: usize) -> &[u32] {
+    let m = least(n, s.len());
+    &s[..m]
+}
+
+pub fn front32(table: &[u32; 64], n: usize) -> &[u32] {
+    cut32(table, n)
 }
 
 // The entry of device d.

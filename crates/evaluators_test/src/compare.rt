@@ -1,5 +1,9 @@
-// The search beside the evaluators, for one plant, index and query.
+// The search beside the evaluators, for one plant, two indexes and a query.
 use crate::cells::at16;
+use crate::cells::front16;
+use crate::cells::front32;
+use crate::indexes::Index;
+use crate::indexes::joined;
 use crate::numbers::least;
 use crate::numbers::next;
 use crate::refusals::refusal;
@@ -9,6 +13,9 @@ use crate::steps::walk;
 use query::Query;
 use search::Answer;
 use search::search;
+
+// What stands for a difference among the refusals.
+pub const DIFFERS: u32 = 60;
 
 // Whether the answer list, which held 9999 everywhere, keeps its entries from `from` on.
 fn is_kept(answer: &[u16], from: usize) -> bool {
@@ -75,51 +82,92 @@ fn is_right(
         && is_listing(answer, a.count, a.position, &plain)
 }
 
-// The refusal that the search gives, or 15 where anything differs.
+// The same for the lists of two indexes.
+fn is_right_over(
+    last: &[u16],
+    root: &[u16],
+    level: &[u8],
+    first: Index,
+    second: Index,
+    query: Query,
+    answer: &[u16],
+    a: Answer,
+) -> bool {
+    let index = joined(first, second);
+    let all_terms = index.terms;
+    let all_starts = index.starts;
+    let all_postings = index.postings;
+    let terms = front16(&all_terms, index.term_count);
+    let starts = front32(&all_starts, index.start_count);
+    let postings = front32(&all_postings, index.posting_count);
+    is_right(last, root, level, terms, starts, postings, query, answer, a)
+}
+
+// What the search answers over the entries of two indexes that are lent.
+fn found(
+    last: &[u16],
+    root: &[u16],
+    level: &[u8],
+    first: Index,
+    second: Index,
+    query: Query,
+    answer: &mut [u16],
+) -> Answer {
+    let terms = first.terms;
+    let starts = first.starts;
+    let postings = first.postings;
+    let second_terms = second.terms;
+    let second_starts = second.starts;
+    let second_postings = second.postings;
+    search(
+        last,
+        root,
+        level,
+        front16(&terms, first.term_count),
+        front32(&starts, first.start_count),
+        front32(&postings, first.posting_count),
+        front16(&second_terms, second.term_count),
+        front32(&second_starts, second.start_count),
+        front32(&second_postings, second.posting_count),
+        query,
+        answer,
+    )
+}
+
+// The refusal that the search gives, or DIFFERS where anything differs.
 fn judge(
     last: &[u16],
     root: &[u16],
     level: &[u8],
-    terms: &[u16],
-    starts: &[u32],
-    postings: &[u32],
+    first: Index,
+    second: Index,
     query: Query,
     answer: &mut [u16],
 ) -> u32 {
-    let expected = refusal(
-        last,
-        root,
-        level,
-        terms,
-        starts,
-        postings,
-        query,
-        answer.len(),
-    );
-    let a = search(last, root, level, terms, starts, postings, query, answer);
+    let expected = refusal(last, root, level, first, second, query, answer.len());
+    let a = found(last, root, level, first, second, query, answer);
     if a.refusal != expected || !is_kept(answer, a.count as usize) {
-        return 15;
+        return DIFFERS;
     }
     if expected != 0 {
         if is_bare(a) {
             return expected;
         }
-        return 15;
+        return DIFFERS;
     }
-    if is_right(last, root, level, terms, starts, postings, query, answer, a) {
+    if is_right_over(last, root, level, first, second, query, answer, a) {
         return 0;
     }
-    15
+    DIFFERS
 }
 
-// Judges the parts of the tables that are lent.
+// Judges the parts of the device tables that are lent.
 fn judge_parts(
     last: &[u16],
     root: &[u16],
     level: &[u8],
-    terms: &[u16],
-    starts: &[u32],
-    postings: &[u32],
+    first: Index,
+    second: Index,
     sizes: Lengths,
     query: Query,
 ) -> u32 {
@@ -128,32 +176,27 @@ fn judge_parts(
     let a = least(sizes.last, last.len());
     let b = least(sizes.root, root.len());
     let c = least(sizes.level, level.len());
-    let d = least(sizes.terms, terms.len());
-    let e = least(sizes.starts, starts.len());
-    let f = least(sizes.postings, postings.len());
-    let g = least(sizes.room, answer.len());
+    let d = least(sizes.room, answer.len());
     judge(
         &last[..a],
         &root[..b],
         &level[..c],
-        &terms[..d],
-        &starts[..e],
-        &postings[..f],
+        first,
+        second,
         query,
-        &mut answer[..g],
+        &mut answer[..d],
     )
 }
 
-// The refusal that the search gives for the first entries of these tables, or 15 where anything differs.
+// The refusal that the search gives for the first entries of these tables, or DIFFERS where anything differs.
 pub fn compare(
     last: &[u16; 16],
     root: &[u16; 16],
     level: &[u8; 16],
-    terms: &[u16; 16],
-    starts: &[u32; 32],
-    postings: &[u32; 32],
+    first: Index,
+    second: Index,
     sizes: Lengths,
     query: Query,
 ) -> u32 {
-    judge_parts(last, root, level, terms, starts, postings, sizes, query)
+    judge_parts(last, root, level, first, second, sizes, query)
 }

@@ -71,24 +71,38 @@ pub fn devices(
     }
 }
 
-// Three terms that rise.
-pub fn terms(seed: &mut u64, terms: &mut [u16; 16]) {
-    let a = plus(1, draw(seed, 3));
-    let b = plus(plus(a, 1), draw(seed, 3));
-    let c = plus(plus(b, 1), draw(seed, 3));
+// What the k terms of an index lie above, by at most 2k: an end of the terms of the first index, or of the second, or 32,766 where terms of both
+// are to be mixed. The terms of a query lie above it by at most 6.
+pub fn base(seed: &mut u64, k: u32, is_second: bool, is_mixed: bool) -> u32 {
+    let is_low = draw(seed, 2) == 0;
+    if is_mixed {
+        return 32766;
+    }
+    if is_second {
+        return if is_low { 32767 } else { 65529 };
+    }
+    if is_low { 0 } else { minus(32767, plus(k, k)) }
+}
+
+// Three terms that rise, above `base`.
+pub fn terms(seed: &mut u64, base: u32, terms: &mut [u16; 16]) {
+    let a = plus(plus(base, 1), draw(seed, 2));
+    let b = plus(plus(a, 1), draw(seed, 2));
+    let c = plus(plus(b, 1), draw(seed, 2));
     put16(terms, 0, a);
     put16(terms, 1, b);
     put16(terms, 2, c);
 }
 
-// The lists of k terms over n devices, one device after another. Returns how many postings there are.
+// The lists of k terms over n devices, one device after another, with redundant postings among them or not. Returns how many postings there are.
 pub fn postings(
     seed: &mut u64,
     n: u32,
     k: u32,
+    is_redundant: bool,
     last: &[u16; 16],
-    starts: &mut [u32; 32],
-    postings: &mut [u32; 32],
+    starts: &mut [u32; 64],
+    postings: &mut [u32; 64],
 ) -> u32 {
     let mut p: u32 = 0;
     let mut covered: u32 = 0;
@@ -106,6 +120,8 @@ pub fn postings(
         if posting != 0 {
             put32(postings, p, posting);
             p = plus(p, 1);
+        }
+        if posting != 0 && !is_redundant {
             covered = reach(last, posting);
         }
         if n <= d {
@@ -143,15 +159,27 @@ fn budget(seed: &mut u64) -> u32 {
     draw(seed, 6)
 }
 
-// A term that may be in the index or not.
-fn term(seed: &mut u64) -> u32 {
-    plus(1, draw(seed, 8))
+// A term above one of two bases, which may be in an index or not.
+fn term(seed: &mut u64, low: u32, high: u32) -> u32 {
+    let t = plus(1, draw(seed, 6));
+    if draw(seed, 2) == 0 {
+        return plus(low, t);
+    }
+    plus(high, t)
 }
 
-// A query over a plant of n devices.
-pub fn query(seed: &mut u64, n: u32) -> Query {
-    let first = [term(seed), term(seed), term(seed), 0, 0, 0, 0, 0];
-    let second = [term(seed), term(seed), term(seed), 0, 0, 0, 0, 0];
+// Three terms in eight places.
+fn places(seed: &mut u64, low: u32, high: u32) -> [u32; 8] {
+    let a = term(seed, low, high);
+    let b = term(seed, low, high);
+    let c = term(seed, low, high);
+    [a, b, c, 0, 0, 0, 0, 0]
+}
+
+// A query over a plant of n devices, with terms above two bases.
+pub fn query(seed: &mut u64, n: u32, low: u32, high: u32) -> Query {
+    let first = places(seed, low, high);
+    let second = places(seed, low, high);
     let range = levels(seed);
     let required = Terms {
         places: first,

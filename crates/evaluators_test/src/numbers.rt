@@ -47,6 +47,11 @@ pub fn plus(a: u32, b: u32) -> u32 {
     a
 }
 
+// The sum of two counts.
+pub fn sum(a: usize, b: usize) -> usize {
+    wide(plus(number(a), number(b)))
+}
+
 pub fn minus(a: u32, b: u32) -> u32 {
     if b <= a { a - b } else { 0 }
 }

@@ -1,11 +1,14 @@
-// Document 01's table of refusals, row by row and by the words, with no care for speed.
+// Document 01's table of refusals, and document 02's numbers for a second store, row by row and by the words, with no care for speed.
 use crate::cells::at16;
 use crate::cells::at32;
 use crate::cells::entry;
+use crate::cells::front16;
+use crate::cells::front32;
 use crate::cells::is_used;
 use crate::cells::list_start;
 use crate::cells::stands_in;
 use crate::cells::term;
+use crate::indexes::Index;
 use crate::numbers::number;
 use crate::numbers::plus;
 use crate::numbers::wide;
@@ -120,7 +123,7 @@ fn in_plant(row: u32, m: usize, last: &[u16], root: &[u16], level: &[u8]) -> boo
     }
 }
 
-// Whether a row for the store applies in case m: a term, a term and a posting, or a term and two postings.
+// Whether a row for a store applies in case m: a term, a term and a posting, or a term and two of at most 24 postings.
 fn in_index(
     row: u32,
     m: usize,
@@ -137,7 +140,7 @@ fn in_index(
         7 => k < starts.len() && bad_start(starts, postings, k)
             || terms.len() == 0 && 0 < postings.len(),
         8 => bad_posting(last, starts, postings, k, i),
-        9 => redundant(last, starts, postings, m % 4, m / 4 % 32, m / 128),
+        9 => redundant(last, starts, postings, m % 4, m / 4 % 24, m / 96),
         _ => false,
     }
 }
@@ -159,7 +162,7 @@ fn in_query(row: u32, m: usize, n: usize, query: Query, room: usize) -> bool {
 fn cases(row: u32) -> usize {
     match row {
         3 | 4 | 8 => 1024,
-        9 => 4096,
+        9 => 2304,
         _ => 32,
     }
 }
@@ -190,8 +193,10 @@ fn any(
     false
 }
 
-// The lowest row of 1 to 14 that applies, or 0.
-pub fn refusal(
+// The lowest row from `from` on and below `end` that applies, or 0.
+fn lowest(
+    from: u32,
+    end: u32,
     last: &[u16],
     root: &[u16],
     level: &[u8],
@@ -201,12 +206,86 @@ pub fn refusal(
     query: Query,
     room: usize,
 ) -> u32 {
-    let mut row = 1;
-    while row <= 14 {
+    let mut row = from;
+    while row < end {
         if any(row, last, root, level, terms, starts, postings, query, room) {
             return row;
         }
         row += 1;
     }
     0
+}
+
+// The same over the entries of an index that are lent.
+fn lowest_over(
+    from: u32,
+    end: u32,
+    last: &[u16],
+    root: &[u16],
+    level: &[u8],
+    index: Index,
+    query: Query,
+    room: usize,
+) -> u32 {
+    let terms = index.terms;
+    let starts = index.starts;
+    let postings = index.postings;
+    lowest(
+        from,
+        end,
+        last,
+        root,
+        level,
+        front16(&terms, index.term_count),
+        front32(&starts, index.start_count),
+        front32(&postings, index.posting_count),
+        query,
+        room,
+    )
+}
+
+// Whether some of the terms lies in low..high.
+fn any_within(terms: &[u16], low: u32, high: u32) -> bool {
+    let mut k = 0;
+    while k < terms.len() {
+        let t = at16(terms, k);
+        if low <= t && t <= high {
+            return true;
+        }
+        k += 1;
+    }
+    false
+}
+
+// 15: a mark in the wrong store: the second is for marks from 32,768 up, the first keeps those below
+fn is_misfiled(first: Index, second: Index) -> bool {
+    let terms = first.terms;
+    let second_terms = second.terms;
+    any_within(front16(&terms, first.term_count), 32768, 65535)
+        || any_within(front16(&second_terms, second.term_count), 0, 32767)
+}
+
+// The refusal, or 0: device tables and the first store, 1 to 9; the second store by the same rules, 55 to 59 for its 5 to 9; 15; the query, 10
+// to 14.
+pub fn refusal(
+    last: &[u16],
+    root: &[u16],
+    level: &[u8],
+    first: Index,
+    second: Index,
+    query: Query,
+    room: usize,
+) -> u32 {
+    let tables = lowest_over(1, 10, last, root, level, first, query, room);
+    if tables != 0 {
+        return tables;
+    }
+    let more = lowest_over(5, 10, last, root, level, second, query, room);
+    if more != 0 {
+        return plus(more, 50);
+    }
+    if is_misfiled(first, second) {
+        return 15;
+    }
+    lowest_over(10, 15, last, root, level, first, query, room)
 }

@@ -1,5 +1,5 @@
-// Document 01's rows a to m and its sentences after them, row j as document 02 has it, and document 02's postings passed over and level code
-// 0, as texts. Prints each query with its answer and with what the slow evaluator lists, and how many differ.
+// Document 01's rows a to m and its sentences after them, row j as document 02 has it, and document 02's postings passed over, level code 0 and
+// marks of the second store, as texts. Prints each query with its answer and with what the slow evaluator lists, and how many differ.
 use crate::beside;
 use crate::numbers::plus;
 use io::write_all;
@@ -106,6 +106,35 @@ fn ranges(p: &[u8]) -> u32 {
     plus(plus(all, lowest), none)
 }
 
+// Marks about 32,768, from which on they belong in the second store, which is empty here: over plant P, and over P with 32,767 or 32,768 for
+// mark 9.
+fn stores(p: &[u8], below: &[u8], from: &[u8]) -> u32 {
+    let need = row(
+        b"mark 40000 is on no device\n",
+        p,
+        b"(ask\n(need 40000)\n)\n",
+    );
+    let not = row(b"mark 40000 bars no device\n", p, b"(ask\n(not 40000)\n)\n");
+    let b = row(b"b with 32767 for 9\n", below, b"(ask\n(need 32767)\n)\n");
+    let c = row(
+        b"c with 32767 for 9\n",
+        below,
+        b"(ask\n(need 7)\n(not 32767)\n)\n",
+    );
+    refusal(
+        b"b with 32768 for 9 is 15\n",
+        from,
+        b"(ask\n(need 32768)\n)\n",
+    );
+    refusal(
+        b"so is an ask that does not name it\n",
+        from,
+        b"(ask\n(need 7)\n)\n",
+    );
+    refusal(b"and one that would be 11\n", from, b"(ask\n(need 0)\n)\n");
+    plus(plus(need, not), plus(b, c))
+}
+
 // All of them, where p is document 01's plant P.
 fn rows_and_sentences(p: &[u8]) -> u32 {
     let first = rows_a_to_f(p);
@@ -117,7 +146,15 @@ fn rows_and_sentences(p: &[u8]) -> u32 {
     let fifth = ranges(
         b"(plant\n(dev 120\n(dev 118\n(dev 0\n)\n)\n(dev 121\n(dev 1\n)\n(dev 119\n)\n)\n)\n)\n",
     );
-    plus(plus(plus(first, second), plus(third, fourth)), fifth)
+    let sixth = stores(
+        p,
+        b"(plant\n(dev 120\n(dev 118\n(dev 255\n)\n)\n(dev 121\n(dev 90\n)\n(dev 119\n)\n)\n)\n(mark 7\n(all 2)\n(own 5)\n)\n(mark 32767\n(all 4)\n)\n)\n",
+        b"(plant\n(dev 120\n(dev 118\n(dev 255\n)\n)\n(dev 121\n(dev 90\n)\n(dev 119\n)\n)\n)\n(mark 7\n(all 2)\n(own 5)\n)\n(mark 32768\n(all 4)\n)\n)\n",
+    );
+    plus(
+        plus(plus(first, second), plus(third, fourth)),
+        plus(fifth, sixth),
+    )
 }
 
 pub fn print_rows() {

@@ -16,7 +16,7 @@ use Rattle.index.specs.inner.Lists.{SoundList, Held}
 use Rattle.index.specs.inner.Outlined.{Outlined}
 use Rattle.index.specs.Index.{Index, count, list, is-term, list-of, misplaced-term, wrong-start, stray, misplaced-in, redundant-in, index-rows, tables-refusal, most-terms, most-postings}
 use Rattle.laws.proofs.Cases.{split-cond}
-use Rattle.laws.proofs.Rows.{otherwise-none, pick-none}
+use Rattle.laws.proofs.Rows.{otherwise-none, pick-past}
 use Rattle.laws.proofs.Search.{none-yet, none-any, any-none, lowest-of}
 use Rattle.index.proofs.Lists.{here, ranged, rises, not-falling}
 use Rattle.index.proofs.Outline.{outlined, outline-passed}
@@ -43,15 +43,15 @@ pub record Accepted (P : Plant) (I : Index) : Type 0 where
   pub devices-rise : any (count I) (misplaced-in (size P) I) ≡ false
   pub none-redundant : any (count I) (redundant-in (P .last) I) ≡ false
 
-pub accepted : (P : Plant) (I : Index) → tables-refusal P I ≡ 0 → Accepted P I
-unfolding tables-refusal index-rows
-accepted P I h =
-    let a = otherwise-none (plant-refusal P) (index-rows 5 (P .last) I) h in
-    let o = outlined 5 I _ (omega arith) (a .1) in
-    let r8 = pick-none (any (count I) (misplaced-in (size P) I)) 7 _ (o .1) in
-    let r9 = pick-none (any (count I) (redundant-in (P .last) I)) 8 _ (r8 .1) in
+-- over accepted device tables, from whatever number on the rows are numbered
+pub accepted-rows : (first : ℕ) (P : Plant) (I : Index) → 1 ≤ first → plant-refusal P ≡ 0 → index-rows first (P .last) I ≡ 0 → Accepted P I
+unfolding index-rows
+accepted-rows first P I u t h =
+    let o = outlined first I _ u h in
+    let r8 = pick-past (any (count I) (misplaced-in (size P) I)) (first + 3) _ (omega arith) (o .1) in
+    let r9 = pick-past (any (count I) (redundant-in (P .last) I)) (first + 4) _ (omega arith) (r8 .1) in
     record {
-      tables = a .0;
+      tables = t;
       even = o .0 .even;
       few-terms = o .0 .few-terms;
       few-postings = o .0 .few-postings;
@@ -61,6 +61,12 @@ accepted P I h =
       devices-rise = r8 .0;
       none-redundant = r9 .0;
     }
+
+pub accepted : (P : Plant) (I : Index) → tables-refusal P I ≡ 0 → Accepted P I
+unfolding tables-refusal
+accepted P I h =
+    let a = otherwise-none (plant-refusal P) (index-rows 5 (P .last) I) h in
+    accepted-rows 5 P I (omega arith) (a .0) (a .1)
 
 -- its lists lie one after another
 outline-of : {P : Plant} {I : Index} → Accepted P I → Outlined I

@@ -11,4 +11,4 @@ pub mod Laying
 pub mod Growing
 mod Halving
 pub mod ForwardStep
-mod Lookup
+pub mod Lookup

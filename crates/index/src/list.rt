@@ -33,7 +33,7 @@ pub fn list_at<'a>(starts: &[u32], postings: &'a [u32], k: usize) -> &'a [u32]
 }
 
 // The number of `term` among the terms, or 0.
-fn number_of(terms: &[u16], term: u32) -> usize
+pub fn number_of(terms: &[u16], term: u32) -> usize
     ensures { λ r. ⌜ Numbered (now (terms .entry)) term r ⌝ }
 {
     let i = lower_bound(terms, term);

@@ -6,11 +6,11 @@ use super::postings::device_of;
 use super::postings::reach_of;
 use integers::u16_to_u32;
 ghost use mathlib.Core.Path.{_≡_};
-ghost use mathlib.Core.Bool.{true, _||_, _&&_, not};
-ghost use lib.Dec.{leb, ltb};
+ghost use mathlib.Core.Bool.{_||_};
 ghost use mathlib.Core.List.{[]};
 ghost use lib.ListN.{length};
 ghost use Rattle.laws.specs.Limits.{highest-term};
+ghost use Rattle.laws.specs.Rows.{otherwise};
 ghost use Rattle.laws.specs.Search.{any};
 ghost use Rattle.plant.specs.Plant.{plant};
 ghost use Rattle.index.specs.Postings.{device, outside, not-rising, misplaced};
@@ -34,27 +34,39 @@ pub fn check(
     if refused != 0 {
         return refused;
     }
-    rows_over(last, true, 5, terms, starts, postings)
+    rows(last, 5, terms, starts, postings)
 }
 
-// The rows for the index alone, numbered from `first` on: the first that applies, or 0. Of an index that is accepted each posting is read once.
-pub fn rows(first: u16, last: &[u16], terms: &[u16], starts: &[u32], postings: &[u32]) -> u32
-    ensures { λ r. ⌜ r ≡ index-rows first (now (last .entry))
-        (index (now (terms .entry)) (now (starts .entry)) (now (postings .entry))) ⌝ }
-{
-    rows_over(last, false, first, terms, starts, postings)
-}
-
-// The same over a table that may be known as checked: then each branch holds its device.
-fn rows_over(
+// The same of two indexes over the device tables: where nothing applies to the first, the rows for the second, numbered from 55 on.
+pub fn check_both(
     last: &[u16],
-    checked: bool,
-    first: u16,
+    root: &[u16],
+    level: &[u8],
     terms: &[u16],
     starts: &[u32],
     postings: &[u32],
+    second_terms: &[u16],
+    second_starts: &[u32],
+    second_postings: &[u32],
 ) -> u32
-    requires { ⌜ (checked ≡ true → Held (now last)) ⌝ }
+    ensures { λ r. ⌜ r ≡ otherwise
+        (tables-refusal
+        (plant (now (last .entry)) (now (root .entry)) (now (level .entry)))
+        (index (now (terms .entry)) (now (starts .entry)) (now (postings .entry))))
+        (index-rows 55 (now (last .entry))
+        (index (now («second_terms» .entry)) (now («second_starts» .entry)) (now («second_postings» .entry)))) ⌝ }
+{
+    let refused = check(last, root, level, terms, starts, postings);
+    if refused != 0 {
+        return refused;
+    }
+    rows(last, 55, second_terms, second_starts, second_postings)
+}
+
+// The rows for an index alone, numbered from `first` on, over device tables that are accepted: the first that applies, or 0. Of an index that is
+// accepted each posting is read once.
+fn rows(last: &[u16], first: u16, terms: &[u16], starts: &[u32], postings: &[u32]) -> u32
+    requires { ⌜ Held (now last) ⌝ }
     ensures { λ r. ⌜ r ≡ index-rows first (now (last .entry))
         (index (now (terms .entry)) (now (starts .entry)) (now (postings .entry))) ⌝ }
 {
@@ -63,7 +75,7 @@ fn rows_over(
     if row != 0 {
         return number + (row - 1);
     }
-    if !any_fault(last, checked, starts, postings) {
+    if !any_fault(last, starts, postings) {
         return 0;
     }
     if any_misplaced(last.len(), starts, postings) {
@@ -125,51 +137,35 @@ fn any_wrong_start(starts: &[u32], postings: &[u32]) -> bool
 }
 
 // Whether a list has a posting that is misplaced or redundant: the one pass over an index that is accepted.
-fn any_fault(last: &[u16], checked: bool, starts: &[u32], postings: &[u32]) -> bool
-    requires { ⌜ (checked ≡ true → Held (now last)) ⌝ }
+fn any_fault(last: &[u16], starts: &[u32], postings: &[u32]) -> bool
+    requires { ⌜ Held (now last) ⌝ }
     ensures { λ r. ⌜ r ≡ any (length (now (starts .entry)))
         (faulty-in (now (last .entry)) (index [] (now (starts .entry)) (now (postings .entry)))) ⌝ }
 {
     let mut k = 0;
     while k < starts.len() {
         k += 1;
-        if fault_in(last, checked, list_at(starts, postings, k)) {
+        if fault_in(last, list_at(starts, postings, k)) {
             return true;
         }
     }
     false
 }
 
-// Whether device d of a posting is at fault: within what was reached before it, above `most`, or, where branches may end before their devices,
-// not above the device before it.
-fn at_fault(d: usize, most: usize, before: usize, reached: usize, checked: bool) -> bool
-    ensures { λ r. ⌜ r ≡ (leb d reached || ltb most d || (not checked && leb d before)) ⌝ }
-{
-    if d <= reached || most < d {
-        return true;
-    }
-    if checked {
-        return false;
-    }
-    d <= before
-}
-
-// Whether a posting of a list is misplaced or redundant. Where branches hold their devices, what a posting reaches is never below its own
-// device: one comparison serves both.
-fn fault_in(last: &[u16], checked: bool, list: &[u32]) -> bool
-    requires { ⌜ (checked ≡ true → Held (now last)) ⌝ }
+// Whether a posting of a list is misplaced or redundant. What a posting reaches is never below its own device: one comparison with what the one
+// before it reaches serves both.
+fn fault_in(last: &[u16], list: &[u32]) -> bool
+    requires { ⌜ Held (now last) ⌝ }
     ensures { λ r. ⌜ r ≡ faulty (now (last .entry)) (now (list .entry)) ⌝ }
 {
-    let mut before = 0;
     let mut reached = 0;
     let mut k = 0;
     while k < list.len() {
         let posting = list[k];
         let d = device_of(posting);
-        if at_fault(d, last.len(), before, reached, checked) {
+        if d <= reached || last.len() < d {
             return true;
         }
-        before = d;
         reached = reach_of(last, posting);
         k += 1;
     }

@@ -19,6 +19,17 @@ pub otherwise-none : (n rest : ℕ) → otherwise n rest ≡ 0 → (n ≡ 0) × 
 otherwise-none zero rest h = (refl, h)
 otherwise-none (suc n) rest h = absurd (omega arith)
 
+-- after the first comes no table
+pub otherwise-last : (n : ℕ) → otherwise n 0 ≡ n
+otherwise-last zero = refl
+otherwise-last (suc n) = refl
+
+-- one row between two tables
+pub otherwise-pick : (n : ℕ) (b : Bool) (m rest : ℕ) → otherwise (otherwise n (pick b (suc m) 0)) rest ≡ otherwise n (pick b (suc m) rest)
+otherwise-pick zero true m rest = refl
+otherwise-pick zero false m rest = refl
+otherwise-pick (suc n) b m rest = refl
+
 -- no row of a table applies: not its first, nor one of the rest
 pub pick-past : (b : Bool) (n rest : ℕ) → 1 ≤ n → pick b n rest ≡ 0 → (b ≡ false) × (rest ≡ 0)
 pick-past true n rest u h = absurd (omega arith)

@@ -1,6 +1,6 @@
 // A smallest text for each number that a plant text, a query text or a query in text can be refused by, with its answer. Numbers 1 to 9, 10
-// and 14 cannot arise from text, and neither can 26: a closing bracket with nothing open is the first line, which is 21, or stands after the
-// closed plant, which is 25.
+// and 14 cannot arise from text, nor 55 to 59, since the second index is handed in empty, and neither can 26: a closing bracket with nothing
+// open is the first line, which is 21, or stands after the closed plant, which is 25.
 mod make;
 
 use io::write_all;
@@ -32,6 +32,7 @@ fn plants() {
     plant(b"(plant\n)\n\n");
     plant(b"(plant\n(mark 1\n)\n(mark 1\n");
     plant(b"(plant\n(dev 0\n(dev 0\n)\n)\n(mark 1\n(all 1)\n(own 2)\n");
+    plant(b"(plant\n(mark 32768\n)\n)\n");
 }
 
 fn queries() {

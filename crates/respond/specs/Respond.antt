@@ -5,6 +5,7 @@ use mathlib.Core.List.{List, _++_}
 use lib.ListN.{length, take, drop}
 use Rattle.plant.specs.Plant.{Plant}
 use Rattle.index.specs.Index.{Index}
+use Rattle.two_indexes.specs.Indexes.{alone, list-of}
 use Rattle.steps.specs.Steps.{End}
 use Rattle.query.specs.declared.Query.{Query}
 use Rattle.search.specs.Answer.{search-refusal, ended}
@@ -26,8 +27,9 @@ abbrev pub of-run : ℕ → End → List ℕ
 of-run zero e = answer-text (e .listed) (e .position) (e .counts .passed) (e .counts .moves)
 of-run (suc n) e = numbered word-query (suc n)
 
+-- "The program hands in an empty second store until the vans have a notes file."
 abbrev pub of-search : Plant → Index → Query → List ℕ
-of-search P I q = of-run (search-refusal P I q device-room) (ended P I q (q .budget))
+of-search P I q = of-run (search-refusal P (alone I) q device-room) (ended P (list-of (alone I)) q (q .budget))
 
 -- `(refused ask 31 2)`, or what the search of the query comes to
 abbrev pub of-query : Plant → Index → ℕ → ℕ → Query → List ℕ

@@ -72,7 +72,7 @@ fn respond_query(
     respond_search(last, root, level, terms, starts, postings, q, out)
 }
 
-// The answer to a query over tables.
+// The answer to a query over tables and their one index: the second is handed in empty.
 fn respond_search(
     last: &[u16],
     root: &[u16],
@@ -98,6 +98,9 @@ fn respond_search(
         terms,
         starts,
         postings,
+        &terms[0..0],
+        &starts[0..0],
+        &postings[0..0],
         query,
         &mut listing,
     );

@@ -8,8 +8,9 @@ use Rattle.laws.specs.Search.{any, lowest}
 use Rattle.plant.specs.Plant as plants
 use Rattle.plant.specs.Plant.{Plant, plant}
 use Rattle.index.specs.Unshared.{count-up, unshared, member}
-use Rattle.index.specs.Index as indexes
-use Rattle.index.specs.Index.{Index, index, list-of}
+use Rattle.index.specs.Index as one
+use Rattle.index.specs.Index.{Index, index}
+use Rattle.two_indexes.specs.Indexes.{Indexes, indexes, alone, list-of, indexes-refusal}
 use Rattle.steps.specs.Moves.{bring}
 use Rattle.steps.specs.Matching.{every, matches, matching}
 use Rattle.steps.specs.Steps.{round, run}
@@ -37,28 +38,40 @@ query required forbidden levels budget =
 abbrev pub most : ℕ
 most = empty .budget
 
--- a row: the answer to the query, the answer list of six zeros afterwards, and what matches before the position
-pub record Row (P : Plant) (q : Query) (listed : List ℕ) (position passed moves : ℕ) : Type 0 where
-  pub answers : answer P I q 6 ≡ record { refusal = 0; count = length listed; position = position; passed = passed; moves = moves }
-  pub lists : answer-list P I q (replicate 6 0) ≡ listed ++ replicate (6 - length listed) 0
-  pub exact : matching (matches (P .last) (list-of I) (criteria P q)) (position - 1) 1 ≡ listed
+-- "an empty second store", and one that has term 40,000 on device 3 alone and an empty list for 32,768
+abbrev pub empty-second : Index
+empty-second = index [] [] []
+
+abbrev pub J : Index
+J = index (32_768 ∷ 40_000 ∷ []) (0 ∷ 0 ∷ []) (6 ∷ [])
+
+-- a row, over index I and a second: the answer to the query, the answer list of six zeros afterwards, and what matches before the position
+pub record Row (P : Plant) (second : Index) (q : Query) (listed : List ℕ) (position passed moves : ℕ) : Type 0 where
+  pub answers : answer P (indexes I second) q 6 ≡ record { refusal = 0; count = length listed; position = position; passed = passed; moves = moves }
+  pub lists : answer-list P (indexes I second) q (replicate 6 0) ≡ listed ++ replicate (6 - length listed) 0
+  pub exact : matching (matches (P .last) (list-of (indexes I second)) (criteria P q)) (position - 1) 1 ≡ listed
+
+-- a refusal: the number, zeros, and the answer list untouched
+pub record Refused (P : Plant) (S : Indexes) (q : Query) (number : ℕ) : Type 0 where
+  pub answers : answer P S q 6 ≡ record { refusal = number; count = 0; position = 0; passed = 0; moves = 0 }
+  pub lists : answer-list P S q (replicate 6 0) ≡ replicate 6 0
 
 -- rows a to j, in that order. Then document 02: "0 is treated as 255 is", row j with device 3 at 0; "12 now also covers a low of 0", row j as
 -- document 01 had it.
 pub rows :
-    Row P (query (7 ∷ []) [] Levels.Any most) (2 ∷ 3 ∷ 5 ∷ []) 7 0 2
-    × Row P (query (9 ∷ []) [] Levels.Any most) (4 ∷ 5 ∷ 6 ∷ []) 7 0 0
-    × Row P (query (7 ∷ []) (9 ∷ []) Levels.Any most) (2 ∷ 3 ∷ []) 7 0 1
-    × Row P (query (9 ∷ []) (7 ∷ []) Levels.Any most) (4 ∷ 6 ∷ []) 7 0 2
-    × Row P (query (7 ∷ []) [] (Levels.Range 100 140) most) (2 ∷ []) 7 0 2
-    × Row P (query (7 ∷ []) (9 ∷ []) Levels.Any 0) (2 ∷ 3 ∷ []) 4 0 0
-    × Row P (query (8 ∷ []) [] Levels.Any most) [] 7 0 0
-    × Row P (query [] (8 ∷ []) Levels.Any most) (1 ∷ 2 ∷ 3 ∷ 4 ∷ 5 ∷ 6 ∷ []) 7 0 0
-    × Row P (query (7 ∷ []) (7 ∷ []) Levels.Any most) [] 7 0 3
-    × Row P (query [] [] (Levels.Range 1 254) most) (1 ∷ 2 ∷ 4 ∷ 5 ∷ 6 ∷ []) 7 0 0
-    × Row (P-with 0) (query [] [] (Levels.Range 1 254) most) (1 ∷ 2 ∷ 4 ∷ 5 ∷ 6 ∷ []) 7 0 0
-    × (answer P I (query [] [] (Levels.Range 0 254) most) 6 ≡ record { refusal = 12; count = 0; position = 0; passed = 0; moves = 0 })
-unfolding plants.plant-refusal indexes.tables-refusal indexes.index-rows common-refusal query-refusal search-refusal terms-of ended run round bring until any lowest matching every member unshared count-up
+    Row P empty-second (query (7 ∷ []) [] Levels.Any most) (2 ∷ 3 ∷ 5 ∷ []) 7 0 2
+    × Row P empty-second (query (9 ∷ []) [] Levels.Any most) (4 ∷ 5 ∷ 6 ∷ []) 7 0 0
+    × Row P empty-second (query (7 ∷ []) (9 ∷ []) Levels.Any most) (2 ∷ 3 ∷ []) 7 0 1
+    × Row P empty-second (query (9 ∷ []) (7 ∷ []) Levels.Any most) (4 ∷ 6 ∷ []) 7 0 2
+    × Row P empty-second (query (7 ∷ []) [] (Levels.Range 100 140) most) (2 ∷ []) 7 0 2
+    × Row P empty-second (query (7 ∷ []) (9 ∷ []) Levels.Any 0) (2 ∷ 3 ∷ []) 4 0 0
+    × Row P empty-second (query (8 ∷ []) [] Levels.Any most) [] 7 0 0
+    × Row P empty-second (query [] (8 ∷ []) Levels.Any most) (1 ∷ 2 ∷ 3 ∷ 4 ∷ 5 ∷ 6 ∷ []) 7 0 0
+    × Row P empty-second (query (7 ∷ []) (7 ∷ []) Levels.Any most) [] 7 0 3
+    × Row P empty-second (query [] [] (Levels.Range 1 254) most) (1 ∷ 2 ∷ 4 ∷ 5 ∷ 6 ∷ []) 7 0 0
+    × Row (P-with 0) empty-second (query [] [] (Levels.Range 1 254) most) (1 ∷ 2 ∷ 4 ∷ 5 ∷ 6 ∷ []) 7 0 0
+    × Refused P (alone I) (query [] [] (Levels.Range 0 254) most) 12
+unfolding plants.plant-refusal one.tables-refusal one.index-rows indexes-refusal common-refusal query-refusal search-refusal terms-of ended run round bring until any lowest matching every member unshared count-up
 rows = (
   record { answers = refl; lists = refl; exact = refl },
   record { answers = refl; lists = refl; exact = refl },
@@ -71,5 +84,42 @@ rows = (
   record { answers = refl; lists = refl; exact = refl },
   record { answers = refl; lists = refl; exact = refl },
   record { answers = refl; lists = refl; exact = refl },
-  refl,
+  record { answers = refl; lists = refl },
+)
+
+-- two indexes: terms of either, both and neither; a list of the second that is empty; then a smallest example of each number, an index without
+-- its starts, 55 before 15, and 15 before the query's own
+pub second-rows :
+    Row P J (query (40_000 ∷ []) [] Levels.Any most) (3 ∷ []) 7 0 1
+    × Row P J (query (7 ∷ 40_000 ∷ []) [] Levels.Any most) (3 ∷ []) 7 0 2
+    × Row P J (query (7 ∷ []) (40_000 ∷ []) Levels.Any most) (2 ∷ 5 ∷ []) 7 0 3
+    × Row P J (query (32_768 ∷ []) [] Levels.Any most) [] 7 0 0
+    × Row P J (query (32_767 ∷ []) [] Levels.Any most) [] 7 0 0
+    × Row P J (query [] (40_001 ∷ []) Levels.Any most) (1 ∷ 2 ∷ 3 ∷ 4 ∷ 5 ∷ 6 ∷ []) 7 0 0
+    × Refused P (indexes I (index (40_000 ∷ []) [] [])) empty 55
+    × Refused P (indexes I (index (40_000 ∷ 40_000 ∷ []) (0 ∷ 0 ∷ []) [])) empty 56
+    × Refused P (indexes I (index [] [] (6 ∷ []))) empty 57
+    × Refused P (indexes I (index (40_000 ∷ []) (0 ∷ []) (14 ∷ []))) empty 58
+    × Refused P (indexes I (index (40_000 ∷ []) (0 ∷ []) (5 ∷ 6 ∷ []))) empty 59
+    × Refused P (alone (index (32_768 ∷ []) (0 ∷ []) [])) empty 15
+    × Refused P (indexes I (index (32_767 ∷ []) (0 ∷ []) [])) empty 15
+    × Refused P (indexes I (index (7 ∷ []) [] [])) empty 55
+    × Refused P (indexes I I) (query [] [] (Levels.Range 0 254) most) 15
+unfolding plants.plant-refusal one.tables-refusal one.index-rows indexes-refusal common-refusal query-refusal search-refusal terms-of ended run round bring until any lowest matching every member unshared count-up
+second-rows = (
+  record { answers = refl; lists = refl; exact = refl },
+  record { answers = refl; lists = refl; exact = refl },
+  record { answers = refl; lists = refl; exact = refl },
+  record { answers = refl; lists = refl; exact = refl },
+  record { answers = refl; lists = refl; exact = refl },
+  record { answers = refl; lists = refl; exact = refl },
+  record { answers = refl; lists = refl },
+  record { answers = refl; lists = refl },
+  record { answers = refl; lists = refl },
+  record { answers = refl; lists = refl },
+  record { answers = refl; lists = refl },
+  record { answers = refl; lists = refl },
+  record { answers = refl; lists = refl },
+  record { answers = refl; lists = refl },
+  record { answers = refl; lists = refl },
 )

@@ -1,32 +1,50 @@
--- What a search gives, and what is promised of it where it is not refused (demands 2 and 3).
+-- What a search gives, and what is promised of it: demands 2 and 3 where it is not refused, and document 02's two indexes.
 use Prim.Native.Nat.{ℕ}
 use mathlib.Core.Path.{_≡_}
 use mathlib.Core.Bool.{Bool, false}
-use mathlib.Core.List.{List}
+use mathlib.Core.List.{List, [], _++_}
 use lib.ListN.{length, take}
+use Rattle.laws.specs.Rows.{pick, otherwise}
 use Rattle.laws.specs.Tables.{entry}
-use Rattle.plant.specs.Plant.{Plant}
+use Rattle.plant.specs.Plant.{Plant, size}
 use Rattle.plant.specs.Levels.{true-level}
-use Rattle.index.specs.Index.{Index, list-of}
+use Rattle.index.specs.Index as one
+use Rattle.index.specs.Index.{Index, index}
+use Rattle.two_indexes.specs.Indexes.{Indexes, alone, any-second, list-of}
 use Rattle.steps.specs.Matching.{matches}
 use Rattle.steps.specs.Promises.{ListsExactly, KeepsBudget}
 use Rattle.query.specs.Query.{any-code}
+use Rattle.query.specs.Refusals.{query-refusal}
 use Rattle.query.specs.declared.Query.{Query}
-use Rattle.search.specs.Answer.{criteria, ended, answer, answer-list}
+use Rattle.search.specs.Answer.{search-refusal, criteria, ended, answer, answer-list}
 use Rattle.search.specs.declared.Answer.{Answer}
 
--- what matches is listed, and the position, what was passed over and the moves are those of a run that keeps its budget. Whether it is short is
--- not told, nor where its cursors stand: as the steps leave them.
-pub record Promised (P : Plant) (I : Index) (q : Query) (listed : List ℕ) (position passed moves : ℕ) : Type 0 where
-  pub lists : ListsExactly (P .last) (list-of I) (criteria P q) listed position
+-- what matches is listed, by the lists that a lookup gives, and the position, what was passed over and the moves are those of a run that keeps its
+-- budget. Whether it is short is not told, nor where its cursors stand: as the steps leave them.
+pub record Promised (P : Plant) (list : ℕ → List ℕ) (q : Query) (listed : List ℕ) (position passed moves : ℕ) : Type 0 where
+  pub lists : ListsExactly (P .last) list (criteria P q) listed position
   -- "0 is treated as 255 is": a device without a true level matches no query that has a level range
-  pub true-levels : any-code (q .levels) ≡ false → (d : ℕ) → true-level (entry (P .level) d) ≡ false → matches (P .last) (list-of I) (criteria P q) d ≡ false
+  pub true-levels : any-code (q .levels) ≡ false → (d : ℕ) → true-level (entry (P .level) d) ≡ false → matches (P .last) list (criteria P q) d ≡ false
   pub short : Bool
-  pub budget : KeepsBudget (P .last) (P .root) (list-of I) (criteria P q) (q .budget)
-      (record { listed = listed; position = position; counts = record { moves = moves; passed = passed }; short = short; cursors = ended P I q (q .budget) .cursors })
+  pub budget : KeepsBudget (P .last) (P .root) list (criteria P q) (q .budget)
+      (record { listed = listed; position = position; counts = record { moves = moves; passed = passed }; short = short; cursors = ended P list q (q .budget) .cursors })
+
+-- with an empty second index all is as before
+pub record AsBefore (P : Plant) (I : Index) (q : Query) (room : ℕ) : Type 0 where
+  -- but for a term from 32,768 up, which has no index then: 15
+  pub refused : search-refusal P (alone I) q room ≡ otherwise (one.tables-refusal P I) (pick (any-second (I .terms)) 15 (query-refusal (size P) room q))
+  -- each term has its list of the one index. What matches, the steps, the lists named and all that is promised speak of the lists alone.
+  pub lists : any-second (I .terms) ≡ false → list-of (alone I) ≡ one.list-of I
+
+-- of two indexes
+pub record OverBoth (P : Plant) (S : Indexes) (q : Query) (room : ℕ) : Type 0 where
+  -- the lookup leaves no posting of either out: a term has the postings that it has in the first, and those that it has in the second
+  pub both : search-refusal P S q room ≡ 0 → (t : ℕ) → list-of S t ≡ one.list-of (S .first) t ++ one.list-of (S .second) t
+  pub before : S .second ≡ index [] [] [] → AsBefore P (S .first) q room
 
 -- r and the answer list, which was `out`
-pub record Searched (P : Plant) (I : Index) (q : Query) (out out′ : List ℕ) (r : Answer) : Type 0 where
-  pub answers : r ≡ answer P I q (length out)
-  pub lists : out′ ≡ answer-list P I q out
-  pub promised : r .refusal ≡ 0 → Promised P I q (take (r .count) out′) (r .position) (r .passed) (r .moves)
+pub record Searched (P : Plant) (S : Indexes) (q : Query) (out out′ : List ℕ) (r : Answer) : Type 0 where
+  pub answers : r ≡ answer P S q (length out)
+  pub lists : out′ ≡ answer-list P S q out
+  pub promised : r .refusal ≡ 0 → Promised P (list-of S) q (take (r .count) out′) (r .position) (r .passed) (r .moves)
+  pub over-both : OverBoth P S q (length out)

@@ -1,6 +1,7 @@
 // The search: the devices that match a query, by document 01's cursor steps.
 ghost use Rattle.plant.specs.Plant.{plant};
 ghost use Rattle.index.specs.Index.{index};
+ghost use Rattle.two_indexes.specs.Indexes.{indexes};
 ghost use Rattle.search.specs.Promises.{Searched};
 use lists::answered;
 use query::Query;
@@ -21,24 +22,41 @@ pub struct Answer {
     pub moves: u32,
 }
 
-// The devices that match a query, from its start on, within its budget of moves. One call checks the tables, the index and the query, in that
-// order. The listing goes to the front of `out`, the other entries of which are kept; a refusal keeps all.
-pub fn search(
+// The devices that match a query, from its start on, within its budget of moves. One call checks the tables, the two indexes and the query, in
+// that order. The listing goes to the front of `out`, the other entries of which are kept; a refusal keeps all.
+pub fn search<'a>(
     last: &[u16],
     root: &[u16],
     level: &[u8],
     terms: &[u16],
     starts: &[u32],
-    postings: &[u32],
+    postings: &'a [u32],
+    second_terms: &[u16],
+    second_starts: &[u32],
+    second_postings: &'a [u32],
     query: Query,
     out: &mut [u16],
 ) -> Answer
     ensures { λ r. ⌜ Searched
         (plant (now (last .entry)) (now (root .entry)) (now (level .entry)))
+        (indexes
         (index (now (terms .entry)) (now (starts .entry)) (now (postings .entry)))
+        (index (now («second_terms» .entry)) (now («second_starts» .entry)) (now («second_postings» .entry))))
         query (now (out .entry)) (now (out .exit)) r ⌝ }
 {
-    let refused = refusal(last, root, level, terms, starts, postings, query, out.len());
+    let refused = refusal(
+        last,
+        root,
+        level,
+        terms,
+        starts,
+        postings,
+        second_terms,
+        second_starts,
+        second_postings,
+        query,
+        out.len(),
+    );
     if refused != 0 {
         return Answer {
             refusal: refused,
@@ -48,7 +66,19 @@ pub fn search(
             moves: 0,
         };
     }
-    let listing = answered(last, root, level, terms, starts, postings, query, out);
+    let listing = answered(
+        last,
+        root,
+        level,
+        terms,
+        starts,
+        postings,
+        second_terms,
+        second_starts,
+        second_postings,
+        query,
+        out,
+    );
     Answer {
         refusal: 0,
         count: listing.count,

@@ -1,13 +1,13 @@
 //! A case, its two outcomes, and whether they differ.
 use crate::ffi::ReadQuery;
-use crate::paper::{self, Answer, Query, Refused, Tables};
+use crate::paper::{self, Answer, Index, Query, Refused, Tables, LIMIT};
 use crate::{slow, Subject};
 
 #[derive(Clone, Debug)]
 pub enum Case {
     Check(Tables),
-    /// Tables, query, and the answer list as lent.
-    Search(Tables, Query, Vec<u16>),
+    /// Tables with the first index, the second index, query, and the answer list as lent.
+    Search(Tables, Index, Query, Vec<u16>),
     /// A text, and the lengths of the six tables lent.
     Plant(Vec<u8>, [usize; 6]),
     /// Tables, and the buffer as lent.
@@ -65,14 +65,27 @@ pub fn shortened(t: &Tables, count: usize) -> Tables {
     Tables { postings: t.postings[..count].to_vec(), ..t.clone() }
 }
 
+/// Tables with the terms of a sound index that are below the limit, and an index of the others.
+pub fn parted(t: &Tables) -> (Tables, Index) {
+    let Index { mut terms, mut starts, mut postings } = t.index();
+    let below = terms.partition_point(|&term| term < LIMIT);
+    let at = starts.get(below).map_or(postings.len(), |&start| start as usize);
+    let second = Index {
+        terms: terms.split_off(below),
+        starts: starts.split_off(below).iter().map(|start| start - at as u32).collect(),
+        postings: postings.split_off(at),
+    };
+    (t.with(&Index { terms, starts, postings }), second)
+}
+
 impl Case {
     /// What the papers say.
     pub fn expected(&self) -> Outcome {
         match self {
             Case::Check(t) => Outcome::Number(t.check()),
-            Case::Search(t, q, answer) => {
+            Case::Search(t, second, q, answer) => {
                 let mut answer = answer.clone();
-                Outcome::Answer(t.search(q, &mut answer), answer)
+                Outcome::Answer(t.search(second, q, &mut answer), answer)
             }
             Case::Plant(text, room) => plant_outcome(paper::read_plant(text, *room), *room),
             Case::Write(t, buffer) => {
@@ -174,14 +187,8 @@ impl Case {
                 let slow = slow::check(t);
                 (slow != *n).then(|| format!("check gives {slow}"))
             }
-            (Case::Search(t, q, lent), Outcome::Answer(got, answer)) if got.refusal == 0 && t.size() <= 130 => {
-                let mut other = lent.clone();
-                let unlimited = t.search(&Query { budget: u32::MAX, ..q.clone() }, &mut other);
-                let (listing, kept) = answer.split_at(got.count as usize);
-                if kept != &lent[listing.len()..] {
-                    return Some("entries beyond the listing changed".into());
-                }
-                slow::broken(t, q, *got, listing, unlimited).map(str::to_string)
+            (Case::Search(t, second, q, lent), Outcome::Answer(got, answer)) => {
+                search_against_slow(t, second, q, lent, *got, answer)
             }
             (Case::Write(t, _), Outcome::Written(0 | 36 | 40, ..)) if t.size() <= 130 => {
                 let deep = slow::too_deep(t);
@@ -192,6 +199,32 @@ impl Case {
             _ => None,
         }
     }
+}
+
+/// The refusal, for small tables; then what an accepted search breaks, or what a refused one changed.
+fn search_against_slow(t: &Tables, second: &Index, q: &Query, lent: &[u16], got: Answer, answer: &[u16]) -> Option<String> {
+    if small(t) && second.postings.len() <= 100 {
+        let slow = slow::search_refusal(t, second, q, lent.len());
+        if slow != got.refusal {
+            return Some(format!("search gives {slow}"));
+        }
+    }
+    if got.refusal != 0 {
+        let untouched = answer == lent && got == Answer { refusal: got.refusal, ..Answer::default() };
+        return (!untouched).then(|| "a refused search changed something".into());
+    }
+    if t.size() > 130 {
+        return None;
+    }
+    let unlimited = t.search(second, &Query { budget: u32::MAX, ..q.clone() }, &mut lent.to_vec());
+    if unlimited.refusal != 0 {
+        return Some("refused with the largest budget".into());
+    }
+    let (listing, kept) = answer.split_at(got.count as usize);
+    if kept != &lent[listing.len()..] {
+        return Some("entries beyond the listing changed".into());
+    }
+    slow::broken(&slow::joined(t, second), q, got, listing, unlimited).map(str::to_string)
 }
 
 /// The refusal; then what an accepted repair leaves, or what a refused one changed.
@@ -248,7 +281,10 @@ fn listings(before: &Tables, after: &Tables) -> Vec<(Case, Outcome)> {
     }
     let mut all = vec![];
     for query in complete_queries(before) {
-        let of_index = |t: &Tables| Case::Search(t.clone(), query.clone(), vec![0xabcd; t.size()]);
+        let of_index = |t: &Tables| {
+            let (first, second) = parted(t);
+            Case::Search(first, second, query.clone(), vec![0xabcd; t.size()])
+        };
         let (old, new) = (of_index(before), of_index(after));
         let (listed, of_new) = (old.expected(), new.expected());
         if let (Outcome::Answer(answer, listing), Outcome::Answer(Answer { passed, moves, .. }, _)) = (&listed, of_new) {
@@ -325,7 +361,7 @@ impl std::fmt::Display for Case {
         let text = |bytes: &[u8]| String::from_utf8_lossy(bytes).into_owned();
         match self {
             Case::Check(t) => write!(f, "check of {t:?}"),
-            Case::Search(t, q, answer) => write!(f, "search in {t:?}\n{q:?}\nanswer list {answer:?}"),
+            Case::Search(t, second, q, answer) => write!(f, "search in {t:?}\nand {second:?}\n{q:?}\nanswer list {answer:?}"),
             Case::Plant(bytes, room) => write!(f, "plant text {:?}\ntables of {room:?}", text(bytes)),
             Case::Write(t, buffer) => write!(f, "writing of {t:?}\ninto {:?}", text(buffer)),
             Case::Repair(t, report) => write!(f, "repair of {t:?}\nreport {report:?}"),

@@ -1,6 +1,6 @@
 //! The proved functions of libc_api.a, as include/plant_search.h declares them, with safe wrappers.
 //! A slice is passed as a pointer and a length; an array of fixed length as a pointer.
-use crate::paper::{Answer, Query, Tables};
+use crate::paper::{Answer, Index, Query, Tables};
 
 extern "C" {
     fn plant_search_check(
@@ -11,8 +11,10 @@ extern "C" {
     fn plant_search_search(
         last: *const u16, last_len: usize, root: *const u16, root_len: usize, level: *const u8, level_len: usize,
         terms: *const u16, terms_len: usize, starts: *const u32, starts_len: usize, postings: *const u32, postings_len: usize,
-        required: *const u32, required_len: usize, forbidden: *const u32, forbidden_len: usize, ranged: u32, low: u32, high: u32,
-        start: u32, budget: u32, answer: *mut u16, answer_len: usize, numbers: *mut [u32; 4],
+        second_terms: *const u16, second_terms_len: usize, second_starts: *const u32, second_starts_len: usize,
+        second_postings: *const u32, second_postings_len: usize, required: *const u32, required_len: usize,
+        forbidden: *const u32, forbidden_len: usize, ranged: u32, low: u32, high: u32, start: u32, budget: u32, answer: *mut u16,
+        answer_len: usize, numbers: *mut [u32; 4],
     ) -> u32;
 
     fn plant_search_read_plant(
@@ -67,7 +69,7 @@ pub fn check(t: &Tables) -> u32 {
     }
 }
 
-pub fn search(t: &Tables, query: &Query, answer: &mut [u16]) -> Answer {
+pub fn search(t: &Tables, second: &Index, query: &Query, answer: &mut [u16]) -> Answer {
     let (ranged, low, high) = query.levels.map_or((0, 0, 0), |(low, high)| (1, low, high));
     let mut numbers = [u32::MAX; 4];
     let refusal = unsafe {
@@ -84,6 +86,12 @@ pub fn search(t: &Tables, query: &Query, answer: &mut [u16]) -> Answer {
             t.starts.len(),
             t.postings.as_ptr(),
             t.postings.len(),
+            second.terms.as_ptr(),
+            second.terms.len(),
+            second.starts.as_ptr(),
+            second.starts.len(),
+            second.postings.as_ptr(),
+            second.postings.len(),
             query.required.as_ptr(),
             query.required.len(),
             query.forbidden.as_ptr(),

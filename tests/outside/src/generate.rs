@@ -1,8 +1,9 @@
 //! Random cases: sound plants, tables with damage, queries, texts and texts with damage.
-use crate::case::Case;
-use crate::paper::{device_of, Query, Tables};
+use crate::case::{parted, Case};
+use crate::paper::{device_of, Index, Query, Tables};
 use crate::random::Random;
 use crate::repair_cases;
+use crate::search_cases::{self, in_one};
 use crate::tighten_cases;
 
 /// A sound forest of n devices. At most `depth` are open together.
@@ -29,13 +30,31 @@ pub fn forest(r: &mut Random, n: usize, depth: usize) -> Tables {
     t
 }
 
-/// Terms and postings over a forest: rising, none redundant.
-fn index(r: &mut Random, t: &mut Tables, terms: usize, most: usize) {
-    let step = r.of(&[1, 1, 2, 60_000 / terms.max(1)]).max(1);
-    let mut term = 0;
-    for _ in 0..terms {
+/// The lowest and the highest of some terms.
+pub type Range = (usize, usize);
+
+/// The terms of an index; of the first of a search; of the second.
+pub const ANY: Range = (1, 65_535);
+pub const FIRST: Range = (1, 32_767);
+pub const SECOND: Range = (32_768, 65_535);
+
+/// Rising terms of a range: from its lowest on or up to its highest, close to one another or all over it.
+fn rising(r: &mut Random, (low, high): Range, count: usize) -> Vec<u16> {
+    let step = r.of(&[1, 1, 2, (high - low) / count.max(1)]).max(1);
+    let mut term = low - 1;
+    let mut next = || {
         term += r.between(1, step);
-        t.terms.push(term as u16);
+        term
+    };
+    let terms: Vec<usize> = (0..count).map(|_| next()).collect();
+    let up = if r.one_in(4) { high - term } else { 0 };
+    terms.iter().map(|term| (term + up) as u16).collect()
+}
+
+/// Terms of a range and postings over a forest: rising, none redundant.
+pub fn index(r: &mut Random, t: &mut Tables, range: Range, terms: usize, most: usize) {
+    for term in rising(r, range, terms) {
+        t.terms.push(term);
         t.starts.push(t.postings.len() as u32);
         let gap = r.of(&[1, 2, 3, 10, 100, t.size().max(1)]);
         let sharing = r.of(&[1, 2, 2, 5, 1_000]);
@@ -58,7 +77,7 @@ fn list(r: &mut Random, t: &mut Tables, gap: usize, sharing: usize, most: usize)
 }
 
 /// Devices, terms and the most postings of a plant.
-fn size(r: &mut Random) -> (usize, usize, usize) {
+pub fn size(r: &mut Random) -> (usize, usize, usize) {
     match r.below(4_000) {
         0 => {
             let (n, terms) = (r.between(1_025, 65_535), r.below(100));
@@ -75,7 +94,7 @@ pub fn plant(r: &mut Random) -> Tables {
     let (n, terms, most) = size(r);
     let depth = r.of(&[1, 3, 32, 70_000]);
     let mut t = forest(r, n, depth);
-    index(r, &mut t, terms, most);
+    index(r, &mut t, ANY, terms, most);
     t
 }
 
@@ -95,12 +114,13 @@ fn resize<T: Copy>(r: &mut Random, v: &mut Vec<T>, filler: T) {
 /// One entry, changed to a number near it, near a limit, or any.
 fn alter(r: &mut Random, value: u32, n: usize, most: u32) -> u32 {
     let near = [value.wrapping_add(1), value.wrapping_sub(1), value ^ 1, value.wrapping_add(2), value.wrapping_sub(2)];
-    let limit = [0, 1, 2, n as u32, n as u32 + 1, 2 * n as u32 + 1, 2 * n as u32 + 2, most, most - 1, 65_535, 65_536];
+    let n = n as u32;
+    let limit = [0, 1, 2, n, n + 1, 2 * n + 1, 2 * n + 2, most, most - 1, 32_767, 32_768, 65_535, 65_536];
     let any = r.next() as u32;
     let chosen = match r.below(5) {
         0 | 1 => r.of(&near),
         2 | 3 => r.of(&limit),
-        _ => any % (2 * n as u32 + 4),
+        _ => any % (2 * n + 4),
     };
     if most == u32::MAX {
         chosen
@@ -111,6 +131,18 @@ fn alter(r: &mut Random, value: u32, n: usize, most: u32) -> u32 {
 
 /// Damage to one place of the tables.
 pub fn damage(r: &mut Random, t: &mut Tables) {
+    let kind = r.below(24);
+    damage_of(r, t, kind);
+}
+
+/// Damage to one place of the index.
+pub fn damage_index(r: &mut Random, t: &mut Tables) {
+    let kind = r.between(9, 23);
+    damage_of(r, t, kind);
+}
+
+/// Damage of one kind: up to 8 to the device tables, from 9 on to the index.
+fn damage_of(r: &mut Random, t: &mut Tables, kind: usize) {
     let n = t.size();
     macro_rules! entry {
         ($v:expr, $most:expr, $kind:ty) => {{
@@ -129,16 +161,16 @@ pub fn damage(r: &mut Random, t: &mut Tables) {
             }
         }};
     }
-    match r.below(24) {
+    match kind {
         0 => resize(r, &mut t.last, n as u16),
         1 => resize(r, &mut t.root, 1),
         2 => resize(r, &mut t.level, 9),
-        3 => resize(r, &mut t.terms, 65_535),
-        4 => resize(r, &mut t.starts, 0),
-        5 | 6 => resize(r, &mut t.postings, 2),
-        7..=9 => entry!(t.last, 65_535, u16),
-        10 | 11 => entry!(t.root, 65_535, u16),
-        12 => swap!(t.last),
+        3..=5 => entry!(t.last, 65_535, u16),
+        6 | 7 => entry!(t.root, 65_535, u16),
+        8 => swap!(t.last),
+        9 => resize(r, &mut t.terms, 65_535),
+        10 => resize(r, &mut t.starts, 0),
+        11 | 12 => resize(r, &mut t.postings, 2),
         13 | 14 => entry!(t.terms, 65_535, u16),
         15 => swap!(t.terms),
         16 | 17 => entry!(t.starts, u32::MAX, u32),
@@ -165,7 +197,7 @@ fn redundant(r: &mut Random, t: &mut Tables) {
 }
 
 /// A table past a limit: rare, since they are large.
-fn past_limit(r: &mut Random) -> Tables {
+pub fn past_limit(r: &mut Random) -> Tables {
     let mut t = Tables::default();
     match r.below(4) {
         0 => {
@@ -206,13 +238,19 @@ fn tables(r: &mut Random) -> Tables {
     t
 }
 
-fn terms(r: &mut Random, t: &Tables, most: usize) -> Vec<u32> {
+/// Terms for a query: mostly of these indexes, now and then one at a limit, or one that differs from theirs by the limit alone.
+fn terms(r: &mut Random, indexes: &[Index], most: usize) -> Vec<u32> {
+    let known: Vec<u16> = indexes.iter().flat_map(|index| &index.terms).copied().collect();
     let count = if r.one_in(25) { r.of(&[7, 8, 8, 9, 10, 40]) } else { r.below(most) };
     let wrong = r.one_in(20);
-    let one = |r: &mut Random| match r.below(20) {
-        0 if wrong => r.of(&[0, 65_536, u32::MAX]),
-        1 => r.of(&[1, 65_535, 30_000]),
-        _ => t.terms.get(r.below(t.terms.len())).map_or(1, |&term| term as u32),
+    let one = |r: &mut Random| {
+        let term = known.get(r.below(known.len())).map_or(1, |&term| term as u32);
+        match r.below(20) {
+            0 if wrong => r.of(&[0, 65_536, 65_536 + 32_768, u32::MAX]),
+            1 => r.of(&[1, 30_000, 32_767, 32_768, 65_535]),
+            2 => term ^ 32_768,
+            _ => term,
+        }
     };
     (0..count).map(|_| one(r)).collect()
 }
@@ -220,10 +258,11 @@ fn terms(r: &mut Random, t: &Tables, most: usize) -> Vec<u32> {
 /// Ends of level ranges, at the edges of the true levels.
 const ENDS: [u32; 9] = [0, 1, 2, 128, 253, 254, 255, 256, u32::MAX];
 
-fn query(r: &mut Random, t: &Tables) -> Query {
-    let n = t.size() as u32;
-    let mut required = terms(r, t, 4);
-    let forbidden = if r.one_in(2) { vec![] } else { terms(r, t, 3) };
+/// A query over so many devices and these indexes.
+pub fn query(r: &mut Random, devices: usize, indexes: &[Index]) -> Query {
+    let n = devices as u32;
+    let mut required = terms(r, indexes, 4);
+    let forbidden = if r.one_in(2) { vec![] } else { terms(r, indexes, 3) };
     if r.one_in(15) && required.len() < 8 {
         required.extend(forbidden.first());
     }
@@ -241,7 +280,8 @@ fn query(r: &mut Random, t: &Tables) -> Query {
         1..=3 => r.below(n as usize + 1) as u32 + 1,
         _ => 1,
     };
-    let named: usize = required.iter().chain(&forbidden).map(|&q| count_of(t, q)).sum();
+    let count = |&term: &u32| indexes.iter().map(|index| count_of(index, term)).sum::<usize>();
+    let named: usize = required.iter().chain(&forbidden).map(count).sum();
     let budget = match r.below(6) {
         0 => r.below(3) as u32,
         1 | 2 => r.below(named + 2) as u32,
@@ -251,40 +291,50 @@ fn query(r: &mut Random, t: &Tables) -> Query {
     Query { required, forbidden, levels, start, budget }
 }
 
-/// A sound plant and a query whose moves often pass postings over: lists of few postings are asked before lists of many. Half
-/// have no more budget than they need, most of these less.
-fn selective(r: &mut Random) -> (Tables, Query) {
+/// A sound plant with each of these terms in its index, and a query whose moves often pass postings over: lists of few postings
+/// are asked before lists of many. Half have no more budget than they need, most of these less.
+fn selective(r: &mut Random, terms: [u16; 4]) -> (Tables, Index, Query) {
     let most = r.of(&[12, 24, 120, 120, 600]);
     let (n, depth) = (r.between(4, most), r.of(&[1, 2, 3, 32]));
     let mut t = forest(r, n, depth);
     let wide = n / 3 + 1;
     let gaps = r.of(&[[wide, 1, 2, 1], [wide, 3, 1, 2], [wide, wide, 2, 1], [3, 2, 2, 1]]);
-    for (k, gap) in gaps.into_iter().enumerate() {
-        t.terms.push(k as u16 + 1);
+    // the list of few postings is the lowest term's, or the highest's
+    let order = r.of(&[[0, 1, 2, 3], [3, 2, 1, 0]]);
+    for (k, term) in terms.into_iter().enumerate() {
+        t.terms.push(term);
         t.starts.push(t.postings.len() as u32);
         let sharing = r.of(&[2, 5, 1_000]);
-        list(r, &mut t, gap, sharing, 4_096);
+        list(r, &mut t, gaps[order[k]], sharing, 4_096);
     }
-    let mut required = vec![1, r.of(&[2, 3, 4])];
-    required.extend((0..r.below(3)).map(|_| r.of(&[1, 2, 3, 4])));
+    let asked = order.map(|k| terms[k] as u32);
+    let mut required = vec![asked[0], r.of(&asked[1..])];
+    required.extend((0..r.below(3)).map(|_| r.of(&asked)));
     let forbidden = required.split_off(r.between(1, required.len()));
     let start = if r.one_in(4) { r.between(1, n + 1) as u32 } else { 1 };
     let mut q = Query { required, forbidden, start, ..Query::empty() };
+    let (t, second) = parted(&t);
     if r.one_in(2) {
-        q.budget = r.below(t.moves(&q).len() + 1) as u32;
+        q.budget = r.below(t.moves(&second, &q).len() + 1) as u32;
     }
-    (t, q)
+    (t, second, q)
 }
 
-/// The length of a term's list, for tables that may be damaged.
-fn count_of(t: &Tables, term: u32) -> usize {
+/// Terms that are all below the limit, and terms on either side of it.
+const BELOW: [[u16; 4]; 2] = [[1, 2, 3, 4], [32_764, 32_765, 32_766, 32_767]];
+const AROUND: [[u16; 4]; 4] =
+    [[1, 2, 3, 4], [32_766, 32_767, 32_768, 32_769], [1, 32_768, 32_769, 65_535], [32_768, 40_000, 65_534, 65_535]];
+
+/// The length of a term's list, for an index that may be damaged.
+fn count_of(t: &Index, term: u32) -> usize {
     let Some(k) = t.terms.iter().position(|&x| x as u32 == term) else { return 0 };
     let start = t.starts.get(k).copied().unwrap_or(0);
     let end = t.starts.get(k + 1).copied().unwrap_or(t.postings.len() as u32);
     (end.saturating_sub(start) as usize).min(t.postings.len())
 }
 
-fn room_for(r: &mut Random, n: usize) -> usize {
+/// About as much room in an answer list as n devices need.
+pub fn room_for(r: &mut Random, n: usize) -> usize {
     match r.below(15) {
         0 => n.saturating_sub(1),
         1 => r.below(n + 1),
@@ -376,8 +426,8 @@ fn spoil(r: &mut Random, text: &mut Vec<u8>) {
     }
 }
 
-/// A forest that fits a text, now and then one tier too deep.
-fn small_plant(r: &mut Random) -> Tables {
+/// A forest that fits a text, now and then one tier too deep, with terms of a range.
+fn small_plant(r: &mut Random, range: Range) -> Tables {
     let (n, terms, most) = match r.below(300) {
         0 => (r.between(900, 1_100), r.below(20), 5_000),
         1 => (r.between(1, 40), r.between(250, 260), 600),
@@ -388,7 +438,7 @@ fn small_plant(r: &mut Random) -> Tables {
     };
     let depth = r.of(&[2, 31, 32, 32, 33]);
     let mut t = forest(r, n, depth);
-    index(r, &mut t, terms, most);
+    index(r, &mut t, range, terms, most);
     if r.one_in(30) {
         redundant(r, &mut t);
     }
@@ -418,7 +468,7 @@ fn some_plant_text(r: &mut Random, t: &Tables) -> Vec<u8> {
 }
 
 fn some_query_text(r: &mut Random, t: &Tables) -> Vec<u8> {
-    let mut text = query_text(&query(r, t));
+    let mut text = query_text(&query(r, t.size(), &[t.index()]));
     if r.one_in(2) {
         spoil(r, &mut text);
     }
@@ -456,7 +506,7 @@ fn lengthen(t: &mut Tables, length: usize) {
 fn long_plant(r: &mut Random) -> Tables {
     let (n, depth, terms) = (r.below(1_025), r.of(&[3, 32, 33]), r.below(200));
     let mut t = forest(r, n, depth);
-    index(r, &mut t, terms, 4_096);
+    index(r, &mut t, ANY, terms, 4_096);
     let near = r.between(65_000, 66_000);
     lengthen(&mut t, r.of(&[65_535, 65_536, 65_536, 65_537, near]));
     t
@@ -466,7 +516,7 @@ fn long_plant(r: &mut Random) -> Tables {
 fn some_tables(r: &mut Random) -> Tables {
     match r.below(400) {
         0 => long_plant(r),
-        1..200 => small_plant(r),
+        1..200 => small_plant(r, ANY),
         _ => tables(r),
     }
 }
@@ -486,23 +536,20 @@ fn buffer(r: &mut Random, t: &Tables) -> Vec<u8> {
     (0..room).map(|_| r.next() as u8).collect()
 }
 
+/// The terms of a plant text that is responded to: nearly always those of the first index, else some above them.
+const RESPONDED: [Range; 12] = [FIRST, FIRST, FIRST, FIRST, FIRST, FIRST, FIRST, FIRST, FIRST, FIRST, (1, 32_768), ANY];
+
 pub fn case(r: &mut Random) -> Case {
     match r.below(35) {
         0..4 => Case::Check(tables(r)),
-        4..10 => {
-            let t = tables(r);
-            let q = query(r, &t);
-            let room = room_for(r, t.size());
-            let filler = r.next() as u16;
-            Case::Search(t, q, vec![filler; room])
-        }
+        4..10 => search_cases::case(r),
         10..14 => {
-            let t = small_plant(r);
+            let t = small_plant(r, ANY);
             let room = rooms(r, &t);
             Case::Plant(some_plant_text(r, &t), room)
         }
         14..17 => {
-            let t = small_plant(r);
+            let t = small_plant(r, ANY);
             Case::Query(some_query_text(r, &t))
         }
         17..21 => {
@@ -511,18 +558,21 @@ pub fn case(r: &mut Random) -> Case {
             Case::Write(t, buffer)
         }
         21..24 => {
-            let t = small_plant(r);
+            let range = r.of(&RESPONDED);
+            let t = small_plant(r, range);
             let plant = if r.one_in(2) { t.text() } else { some_plant_text(r, &t) };
             Case::Respond(plant, some_query_text(r, &t))
         }
         24 => {
-            let (t, q) = selective(r);
+            let terms = r.of(&BELOW);
+            let (t, _, q) = selective(r, terms);
             Case::Respond(t.text(), query_text(&q))
         }
         25..28 => {
-            let (t, q) = selective(r);
+            let terms = r.of(&AROUND);
+            let (t, second, q) = selective(r, terms);
             let answer = vec![r.next() as u16; t.size()];
-            Case::Search(t, q, answer)
+            Case::Search(t, second, q, answer)
         }
         28..31 => repair_cases::case(r),
         _ => tighten_cases::case(r),
@@ -540,7 +590,8 @@ pub const Q: &[u8] = b"(plant\n(dev 100\n(dev 101\n(dev 102\n)\n(dev 103\n)\n(de
 (mark 4\n(own 2)\n(own 3)\n(own 4)\n(own 6)\n(own 8)\n)\n)\n";
 
 /// Cases without chance: each way to damage P in one place, P's text and an ask cut and changed at every byte, every small
-/// query over P and Q, tables of lengths 0 and 1, what is written at each limit, the longest lists, repairs and tightenings.
+/// query over P, searches in two indexes, tables of lengths 0 and 1, what is written at each limit, the longest lists, repairs
+/// and tightenings.
 pub fn systematic() -> Vec<Case> {
     let p = crate::paper::read_plant(P, [9; 6]).unwrap();
     let mut cases = vec![];
@@ -552,10 +603,10 @@ pub fn systematic() -> Vec<Case> {
             rooms[table] = room;
             cases.push(Case::Plant(P.to_vec(), rooms));
         }
-        cases.push(Case::Search(p.clone(), Query::empty(), vec![5; room]));
+        cases.push(in_one(p.clone(), Query::empty(), vec![5; room]));
     }
-    small_queries(&p, &[7, 8, 9], &mut cases);
-    small_queries(&crate::paper::read_plant(Q, [11; 6]).unwrap(), &[1, 2, 3, 4], &mut cases);
+    small_queries(&p, &Index::default(), &[7, 8, 9], &mut cases);
+    search_cases::systematic(&mut cases);
     level_ranges(&mut cases);
     short_tables(&mut cases);
     short_texts(&mut cases);
@@ -574,7 +625,7 @@ fn level_ranges(cases: &mut Vec<Case>) {
     let t = Tables { last: trees.clone(), root: trees, level: (0..=255).collect(), ..Tables::default() };
     for range in ENDS.iter().flat_map(|&low| ENDS.map(|high| (low, high))) {
         let query = Query { levels: Some(range), ..Query::empty() };
-        cases.push(Case::Search(t.clone(), query, vec![5; 256]));
+        cases.push(in_one(t.clone(), query, vec![5; 256]));
     }
 }
 
@@ -604,7 +655,7 @@ fn damaged_texts(cases: &mut Vec<Case>) {
 
 /// P's tables with each entry set to small and to large numbers.
 fn damaged_tables(p: &Tables, cases: &mut Vec<Case>) {
-    for value in (0..16).chain([65_534, 65_535, 65_536, u32::MAX - 1, u32::MAX]) {
+    for value in (0..16).chain([32_767, 32_768, 65_534, 65_535, 65_536, u32::MAX - 1, u32::MAX]) {
         macro_rules! each {
             ($field:ident, $kind:ty) => {
                 for i in 0..p.$field.len() {
@@ -614,7 +665,7 @@ fn damaged_tables(p: &Tables, cases: &mut Vec<Case>) {
                     cases.push(Case::Write(t.clone(), vec![5; P.len() + 2]));
                     cases.push(Case::Repair(t.clone(), vec![5; 9]));
                     cases.push(Case::Tighten(t.clone()));
-                    cases.push(Case::Search(t, Query::empty(), vec![5; 6]));
+                    cases.push(in_one(t, Query::empty(), vec![5; 6]));
                 }
             };
         }
@@ -628,7 +679,7 @@ fn damaged_tables(p: &Tables, cases: &mut Vec<Case>) {
 }
 
 /// Every query of up to two required and up to two forbidden of these terms, with every start and small budgets.
-fn small_queries(t: &Tables, terms: &[u32], cases: &mut Vec<Case>) {
+pub fn small_queries(t: &Tables, second: &Index, terms: &[u32], cases: &mut Vec<Case>) {
     let mut sides: Vec<Vec<u32>> = vec![vec![]];
     for &a in terms {
         sides.push(vec![a]);
@@ -640,7 +691,7 @@ fn small_queries(t: &Tables, terms: &[u32], cases: &mut Vec<Case>) {
                 for budget in (0..6).chain([u32::MAX]) {
                     let levels = if budget == 5 { Some((100, 140)) } else { None };
                     let q = Query { required: required.clone(), forbidden: forbidden.clone(), levels, start, budget };
-                    cases.push(Case::Search(t.clone(), q, vec![5; t.size()]));
+                    cases.push(Case::Search(t.clone(), second.clone(), q, vec![5; t.size()]));
                 }
             }
         }
@@ -666,7 +717,7 @@ fn short_tables(cases: &mut Vec<Case>) {
             cases.push(Case::Tighten(t.clone()));
             for start in 0..3 {
                 let q = Query { required: vec![value], start, ..Query::empty() };
-                cases.push(Case::Search(t.clone(), q, vec![5; length(0)]));
+                cases.push(in_one(t.clone(), q, vec![5; length(0)]));
             }
         }
     }
@@ -776,15 +827,19 @@ fn large_tables(cases: &mut Vec<Case>) {
     }
 }
 
-/// Sixteen lists of every device, or of all but the last, asked at the last one: each move passes all but the ends of its list.
+/// Sixteen lists of every device, or of all but the last, asked at the last one, all in one index or half of them in the second:
+/// each move passes all but the ends of its list.
 fn long_lists(cases: &mut Vec<Case>) {
-    let mut t = Tables { terms: (1..=16).collect(), ..of_tiers([1; 65_535]) };
+    let mut t = of_tiers([1; 65_535]);
     for k in 0..16 {
         t.starts.push(t.postings.len() as u32);
         t.postings.extend((1..=65_535 - k / 8).map(|d| 2 * d));
     }
-    for budget in [0, 1, 15, 16] {
-        let q = Query { required: (1..=8).collect(), forbidden: (9..=16).collect(), start: 65_535, budget, ..Query::empty() };
-        cases.push(Case::Search(t.clone(), q, vec![5; 65_535]));
+    for (lowest, budget) in [1, 32_760].into_iter().flat_map(|lowest| [0, 1, 15, 16].map(|budget| (lowest, budget))) {
+        let (t, second) = parted(&Tables { terms: (lowest..lowest + 16).collect(), ..t.clone() });
+        let terms: Vec<u32> = (lowest as u32..).take(16).collect();
+        let (required, forbidden) = (terms[..8].to_vec(), terms[8..].to_vec());
+        let q = Query { required, forbidden, start: 65_535, budget, ..Query::empty() };
+        cases.push(Case::Search(t, second, q, vec![5; 65_535]));
     }
 }

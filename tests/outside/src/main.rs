@@ -10,6 +10,8 @@ mod repair;
 mod repair_cases;
 #[cfg(test)]
 mod rows;
+mod search_cases;
+mod search_mistakes;
 mod shrink;
 mod slow;
 mod subjects;
@@ -29,9 +31,11 @@ pub trait Subject {
 struct Tally {
     cases: usize,
     differ: usize,
-    refusals: [usize; 45],
+    refusals: [usize; 60],
     /// accepted searches, complete ones and those that stop: how many, and how many of them pass postings over
     searches: [[usize; 2]; 2],
+    /// accepted searches: how many have an empty second index, and how many name a term that it has
+    second: [usize; 2],
     /// accepted repairs: how many, and how many of them drop postings
     repairs: [usize; 2],
     /// accepted tightenings: how many, and how many of them get shorter
@@ -56,10 +60,12 @@ impl Tally {
     }
 
     fn count(&mut self, case: &Case, expected: &Outcome) {
-        if let (Case::Search(t, ..), Outcome::Answer(Answer { refusal: 0, position, passed, .. }, _)) = (case, expected) {
-            let [all, passing] = &mut self.searches[(*position as usize <= t.size()) as usize];
+        if let (Case::Search(t, second, q, _), Outcome::Answer(answer @ Answer { refusal: 0, .. }, _)) = (case, expected) {
+            let [all, passing] = &mut self.searches[(answer.position as usize <= t.size()) as usize];
             *all += 1;
-            *passing += (*passed > 0) as usize;
+            *passing += (answer.passed > 0) as usize;
+            self.second[0] += second.terms.is_empty() as usize;
+            self.second[1] += q.required.iter().chain(&q.forbidden).any(|&term| second.terms.contains(&(term as u16))) as usize;
         }
         if let Outcome::Repaired(0, [dropped, _], ..) = expected {
             self.repairs[0] += 1;
@@ -71,12 +77,12 @@ impl Tally {
         }
     }
 
-    /// Every row of document 01's table is reached, and 36, 40, 41 and 44 of document 02, but 26: no text has a closing bracket
-    /// with nothing open, since one on the first line is 21 and one after the closed plant is 25.
+    /// Every row of document 01's table is reached, and 15, 36, 40, 41, 44 and 55 to 59 of document 02, but 26: no text has a
+    /// closing bracket with nothing open, since one on the first line is 21 and one after the closed plant is 25.
     fn report(&self, seconds: f64) -> bool {
         let mut reached = true;
         for (number, count) in self.refusals.iter().enumerate() {
-            let row = matches!(number, 1..=14 | 20..=25 | 27..=36 | 40 | 41 | 44);
+            let row = matches!(number, 1..=15 | 20..=25 | 27..=36 | 40 | 41 | 44 | 55..=59);
             reached &= !row || *count > 0;
             if row || number == 0 || *count > 0 {
                 println!("{} {number:2}: {count}", if number == 0 { "accepted" } else { " refusal" });
@@ -85,6 +91,8 @@ impl Tally {
         for (how, [all, passing]) in ["complete", "stopped"].iter().zip(self.searches) {
             println!("{how} searches: {all}, {passing} of them pass postings over");
         }
+        let [empty, named] = self.second;
+        println!("accepted searches with an empty second index: {empty}, with a term that the second has: {named}");
         println!("accepted repairs: {}, {} of them drop postings", self.repairs[0], self.repairs[1]);
         println!("accepted tightenings: {}, {} of them get shorter", self.tightenings[0], self.tightenings[1]);
         println!("{} cases, {} differ, {seconds:.1} seconds", self.cases, self.differ);
@@ -100,9 +108,17 @@ fn main() {
     let number = |i: usize, otherwise: u64| words.get(i).and_then(|w| w.parse().ok()).unwrap_or(otherwise);
     let wrong = words.first().is_some_and(|w| w == "wrong");
     let subject: &dyn Subject = if wrong { &subjects::Wrong(number(1, 1)) } else { &subjects::Archive };
-    let cases = if wrong { number(2, 200_000) } else { number(0, 1_400_000) };
+    let cases = if wrong { number(2, 250_000) } else { number(0, 1_400_000) };
     let mut random = Random(if wrong { 1 } else { number(1, 20_260_101) });
-    let mut tally = Tally { cases: 0, differ: 0, refusals: [0; 45], searches: [[0; 2]; 2], repairs: [0; 2], tightenings: [0; 2] };
+    let mut tally = Tally {
+        cases: 0,
+        differ: 0,
+        refusals: [0; 60],
+        searches: [[0; 2]; 2],
+        second: [0; 2],
+        repairs: [0; 2],
+        tightenings: [0; 2],
+    };
     let began = Instant::now();
     for case in generate::systematic() {
         tally.run(case, subject);

@@ -1,5 +1,5 @@
 //! Document 01 in plain Rust, written from its text: tables and their checks, the cursor steps, both texts, the response; and
-//! document 02's writing of a plant and count of the postings that moves pass over.
+//! document 02's writing of a plant, count of the postings that moves pass over and second index.
 //! Nothing here is shared with the proved crates.
 
 #[derive(Clone, Debug, Default, PartialEq)]
@@ -11,6 +11,17 @@ pub struct Tables {
     pub starts: Vec<u32>,
     pub postings: Vec<u32>,
 }
+
+/// An index apart from device tables: the second of a search.
+#[derive(Clone, Debug, Default, PartialEq)]
+pub struct Index {
+    pub terms: Vec<u16>,
+    pub starts: Vec<u32>,
+    pub postings: Vec<u32>,
+}
+
+/// The lowest term of the second index.
+pub const LIMIT: u16 = 32_768;
 
 #[derive(Clone, Debug, PartialEq)]
 pub struct Query {
@@ -47,6 +58,17 @@ impl Tables {
         [self.last.len(), self.root.len(), self.level.len(), self.terms.len(), self.starts.len(), self.postings.len()]
     }
 
+    /// The index alone.
+    pub fn index(&self) -> Index {
+        Index { terms: self.terms.clone(), starts: self.starts.clone(), postings: self.postings.clone() }
+    }
+
+    /// The device tables with another index.
+    pub fn with(&self, index: &Index) -> Tables {
+        let Index { terms, starts, postings } = index.clone();
+        Tables { last: self.last.clone(), root: self.root.clone(), level: self.level.clone(), terms, starts, postings }
+    }
+
     /// The last device of a device's branch.
     pub fn last_of(&self, device: usize) -> usize {
         self.last[device - 1] as usize
@@ -62,16 +84,21 @@ impl Tables {
         }
     }
 
-    /// The list of the term at index k: it ends where the next starts, or at the end.
+    /// The list of the term at index k.
     pub fn list(&self, k: usize) -> &[u32] {
-        let end = self.starts.get(k + 1).map_or(self.postings.len(), |&s| s as usize);
-        &self.postings[self.starts[k] as usize..end]
+        list(&self.starts, &self.postings, k)
     }
 
     pub fn list_of(&self, term: u32) -> &[u32] {
-        match self.terms.iter().position(|&t| t as u32 == term) {
-            Some(k) => self.list(k),
-            None => &[],
+        list_of(&self.terms, &self.starts, &self.postings, term)
+    }
+
+    /// The list of a term in two indexes: in the first for a term below the limit, else in the second.
+    pub fn lookup<'a>(&'a self, second: &'a Index, term: u32) -> &'a [u32] {
+        if term < LIMIT as u32 {
+            self.list_of(term)
+        } else {
+            list_of(&second.terms, &second.starts, &second.postings, term)
         }
     }
 
@@ -142,14 +169,40 @@ impl Tables {
         false
     }
 
-    /// Refusals 1 to 14.
-    pub fn refusal(&self, query: &Query, room: usize) -> u32 {
+    /// Refusals 55 to 59: those of the second index over accepted device tables.
+    pub fn check_second(&self, second: &Index) -> u32 {
+        match self.with(second).check_index() {
+            0 => 0,
+            refusal => 50 + refusal,
+        }
+    }
+
+    /// Whether a term is in the wrong index.
+    fn any_misplaced(&self, second: &Index) -> bool {
+        self.terms.iter().any(|&t| t >= LIMIT) || second.terms.iter().any(|&t| t < LIMIT)
+    }
+
+    /// The refusals of a search: 1 to 9, 55 to 59, 15, then 10 to 14.
+    pub fn refusal(&self, second: &Index, query: &Query, room: usize) -> u32 {
         let of_tables = self.check();
+        if of_tables != 0 {
+            return of_tables;
+        }
+        let of_second = self.check_second(second);
+        if of_second != 0 {
+            of_second
+        } else if self.any_misplaced(second) {
+            15
+        } else {
+            self.query_refusal(query, room)
+        }
+    }
+
+    /// Refusals 10 to 14.
+    pub fn query_refusal(&self, query: &Query, room: usize) -> u32 {
         let n = self.size() as u64;
         let mut named = query.required.iter().chain(&query.forbidden);
-        if of_tables != 0 {
-            of_tables
-        } else if query.required.len() > 8 || query.forbidden.len() > 8 {
+        if query.required.len() > 8 || query.forbidden.len() > 8 {
             10
         } else if named.any(|&t| !(1..=65_535).contains(&t)) {
             11
@@ -164,19 +217,23 @@ impl Tables {
         }
     }
 
-    pub fn search(&self, query: &Query, answer: &mut [u16]) -> Answer {
-        let refusal = self.refusal(query, answer.len());
-        if refusal != 0 {
-            return Answer { refusal, ..Answer::default() };
+    pub fn search(&self, second: &Index, query: &Query, answer: &mut [u16]) -> Answer {
+        match self.refusal(second, query, answer.len()) {
+            0 => self.run(|term| self.lookup(second, term), query, answer),
+            refusal => Answer { refusal, ..Answer::default() },
         }
-        let run = Run::whole(self, query, answer);
+    }
+
+    /// The answer to an accepted query over the lists that are looked up.
+    pub fn run<'a>(&'a self, lookup: impl Fn(u32) -> &'a [u32], query: &'a Query, answer: &mut [u16]) -> Answer {
+        let run = Run::whole(self, lookup, query, answer);
         let passed = run.made.iter().map(Move::passed).sum::<usize>() as u32;
         Answer { refusal: 0, count: run.count as u32, position: run.position as u32, passed, moves: run.made.len() as u32 }
     }
 
     /// The moves of an accepted query, in the order in which they are made.
-    pub fn moves(&self, query: &Query) -> Vec<Move> {
-        Run::whole(self, query, &mut vec![0; self.size()]).made
+    pub fn moves(&self, second: &Index, query: &Query) -> Vec<Move> {
+        Run::whole(self, |term| self.lookup(second, term), query, &mut vec![0; self.size()]).made
     }
 
     /// How many branches end with each device.
@@ -238,13 +295,29 @@ pub fn device_of(posting: u32) -> usize {
     (posting / 2) as usize
 }
 
+/// The list at index k: it ends where the next starts, or at the end.
+fn list<'a>(starts: &[u32], postings: &'a [u32], k: usize) -> &'a [u32] {
+    let end = starts.get(k + 1).map_or(postings.len(), |&s| s as usize);
+    &postings[starts[k] as usize..end]
+}
+
+/// The list of a term; of one that is absent, an empty one.
+fn list_of<'a>(terms: &[u16], starts: &[u32], postings: &'a [u32], term: u32) -> &'a [u32] {
+    match terms.iter().position(|&t| t as u32 == term) {
+        Some(k) => list(starts, postings, k),
+        None => &[],
+    }
+}
+
 struct Cursor<'a> {
+    term: u32,
     list: &'a [u32],
     at: usize,
 }
 
-/// A move of a cursor, from one index of its list to a later one or to the length.
+/// A move of a term's cursor, from one index of its list to a later one or to the length.
 pub struct Move {
+    pub term: u32,
     pub from: usize,
     pub to: usize,
 }
@@ -268,9 +341,9 @@ struct Run<'a> {
 }
 
 impl<'a> Run<'a> {
-    fn new(tables: &'a Tables, query: &'a Query) -> Run<'a> {
-        let cursors =
-            |terms: &[u32]| -> Vec<Cursor<'a>> { terms.iter().map(|&t| Cursor { list: tables.list_of(t), at: 0 }).collect() };
+    fn new(tables: &'a Tables, lookup: impl Fn(u32) -> &'a [u32], query: &'a Query) -> Run<'a> {
+        let cursor = |&term: &u32| Cursor { term, list: lookup(term), at: 0 };
+        let cursors = |terms: &[u32]| -> Vec<Cursor<'a>> { terms.iter().map(cursor).collect() };
         Run {
             tables,
             query,
@@ -283,8 +356,8 @@ impl<'a> Run<'a> {
     }
 
     /// A run that has ended. Moves and passed together are how far its cursors stand from the starts of their lists.
-    fn whole(tables: &'a Tables, query: &'a Query, answer: &mut [u16]) -> Run<'a> {
-        let mut run = Run::new(tables, query);
+    fn whole(tables: &'a Tables, lookup: impl Fn(u32) -> &'a [u32], query: &'a Query, answer: &mut [u16]) -> Run<'a> {
+        let mut run = Run::new(tables, lookup, query);
         while run.position <= tables.size() && run.round(answer) {}
         let gone: usize = run.required.iter().chain(&run.forbidden).map(|cursor| cursor.at).sum();
         assert_eq!(gone, run.made.iter().map(|made| 1 + made.passed()).sum());
@@ -352,7 +425,7 @@ impl Cursor<'_> {
             while self.device(tables) < target && self.at < self.list.len() {
                 self.at += 1;
             }
-            made.push(Move { from, to: self.at });
+            made.push(Move { term: self.term, from, to: self.at });
         }
     }
 }
@@ -569,8 +642,13 @@ fn set_line(query: &mut Query, at: u32, numbers: &[u64]) -> bool {
 /// What the program has room for: devices, terms, postings.
 pub const ROOM: [usize; 6] = [1_024, 1_024, 1_024, 256, 256, 4_096];
 
-/// What the program prints for a plant text and an ask text.
+/// What the program prints for a plant text and an ask text: its second index is empty.
 pub fn respond(plant: &[u8], query: &[u8]) -> Vec<u8> {
+    respond_by(plant, query, |tables, query, answer| tables.search(&Index::default(), query, answer))
+}
+
+/// What is printed where the tables and the query that were read are searched in this way.
+pub fn respond_by(plant: &[u8], query: &[u8], search: impl Fn(&Tables, &Query, &mut [u16]) -> Answer) -> Vec<u8> {
     let tables = match read_plant(plant, ROOM) {
         Ok(tables) => tables,
         Err((number, line)) => return format!("(refused plant {number} {line})\n").into_bytes(),
@@ -580,7 +658,7 @@ pub fn respond(plant: &[u8], query: &[u8]) -> Vec<u8> {
         Err((number, line)) => return format!("(refused ask {number} {line})\n").into_bytes(),
     };
     let mut answer = vec![0; ROOM[0]];
-    let end = tables.search(&query, &mut answer);
+    let end = search(&tables, &query, &mut answer);
     if end.refusal != 0 {
         return format!("(refused query {})\n", end.refusal).into_bytes();
     }

@@ -1,12 +1,13 @@
-//! Document 01's worked rows over plant P, and more over plant Q, which the plain implementation must give, what it writes, what it
-//! repairs and what it tightens.
-use crate::case::{Case, Outcome};
-use crate::generate::{self, P, Q};
-use crate::paper::{read_plant, read_query, respond, Answer, Query, Tables};
+//! Document 01's worked rows over plant P, and more over plant Q, which the plain implementation must give, in one index and in
+//! two, what it writes, what it repairs and what it tightens.
+use crate::case::{parted, Case, Outcome};
+use crate::generate::{self, of_tiers, P, Q};
+use crate::paper::{read_plant, read_query, respond, Answer, Index, Query, Tables, LIMIT, ROOM};
 use crate::random::Random;
 use crate::repair_cases::{self, one_list, plants};
+use crate::search_cases;
 use crate::slow::{self, broken};
-use crate::subjects::Wrong;
+use crate::subjects::{Wrong, MISTAKES};
 use crate::tighten_cases;
 use crate::Subject;
 use std::collections::BTreeSet;
@@ -89,9 +90,9 @@ fn passed_is_bounded() {
     let q = read_plant(Q, [11; 6]).unwrap();
     let broken = |ask: &str, passed: u32| {
         let query = read_query(format!("(ask\n{ask})\n").as_bytes()).unwrap();
-        let mut answer = [0; 9];
-        let unlimited = q.search(&Query { budget: u32::MAX, ..query.clone() }, &mut answer);
-        let got = q.search(&query, &mut answer);
+        let (mut answer, none) = ([0; 9], Index::default());
+        let unlimited = q.search(&none, &Query { budget: u32::MAX, ..query.clone() }, &mut answer);
+        let got = q.search(&none, &query, &mut answer);
         broken(&q, &query, Answer { passed, ..got }, &answer[..got.count as usize], unlimited).is_some()
     };
     assert_eq!([2, 3, 4].map(|passed| broken("(need 1)\n(need 4)\n", passed)), [true, false, true]);
@@ -100,10 +101,155 @@ fn passed_is_bounded() {
     assert_eq!([0, 1].map(|passed| broken("(need 1)\n(need 4)\n(moves 0)\n", passed)), [false, true]);
 }
 
+/// A row over a plant whose terms above the highest of the first index are raised by the limit.
+fn row_in_two_is(plant: &[u8], highest: u32, (ask, devices, position, passed, moves): Row) {
+    let raised = |term: u32| if term > highest { term + 32_768 } else { term };
+    let mut t = read_plant(plant, ROOM).unwrap();
+    t.terms.iter_mut().for_each(|term| *term = raised(*term as u32) as u16);
+    let (first, second) = parted(&t);
+    let mut query = read_query(format!("(ask\n{ask})\n").as_bytes()).unwrap();
+    query.required.iter_mut().chain(&mut query.forbidden).for_each(|term| *term = raised(*term));
+    let mut answer = vec![0; t.size()];
+    let count = devices.len();
+    let expected = Answer { refusal: 0, count: count as u32, position, passed, moves };
+    assert_eq!((first.search(&second, &query, &mut answer), &answer[..count]), (expected, devices), "{ask}");
+}
+
+#[test]
+fn rows_in_two_indexes() {
+    for highest in 0..10 {
+        ROWS.into_iter().for_each(|row| row_in_two_is(P, highest, row));
+        PASSING.into_iter().for_each(|row| row_in_two_is(Q, highest, row));
+    }
+}
+
+/// The devices that a query for one term lists, of 32,767 at device 1 in the first index and 32,768 at device 2 in the second.
+#[test]
+fn terms_at_the_limit() {
+    let first = of_tiers([1, 2]).with(&Index { terms: vec![32_767], starts: vec![0], postings: vec![2] });
+    let second = Index { terms: vec![32_768], starts: vec![0], postings: vec![4] };
+    let listed = |term: u32| {
+        let mut answer = [0; 2];
+        first.search(&second, &Query { required: vec![term], ..Query::empty() }, &mut answer);
+        answer
+    };
+    assert_eq!([1, 32_766, 32_767, 32_768, 32_769, 65_535].map(listed), [[0, 0], [0, 0], [1, 0], [2, 0], [0, 0], [0, 0]]);
+}
+
+#[test]
+fn second_indexes_that_are_refused() {
+    let pair = of_tiers([1, 2]);
+    let of = |terms: &[u16], starts: &[u32], postings: &[u32]| {
+        let index = Index { terms: terms.to_vec(), starts: starts.to_vec(), postings: postings.to_vec() };
+        let refusal = |t: &Tables, second: &Index| t.search(second, &Query::empty(), &mut [5; 2]).refusal;
+        [refusal(&pair.with(&index), &Index::default()), refusal(&pair, &index)]
+    };
+    // as the first index, and as the second
+    assert_eq!(of(&[], &[], &[]), [0, 0]);
+    assert_eq!(of(&[32_768], &[], &[]), [5, 55]);
+    assert_eq!(of(&[0], &[0], &[]), [6, 56]);
+    assert_eq!(of(&[40_000, 40_000], &[0, 0], &[]), [6, 56]);
+    assert_eq!(of(&[32_768], &[1], &[2]), [7, 57]);
+    assert_eq!(of(&[], &[], &[2]), [7, 57]);
+    assert_eq!(of(&[32_768], &[0], &[6]), [8, 58]);
+    assert_eq!(of(&[32_768], &[0], &[3, 4]), [9, 59]);
+    assert_eq!(of(&[32_768], &[0], &[2]), [15, 0]);
+    assert_eq!(of(&[65_535], &[0], &[2]), [15, 0]);
+    assert_eq!(of(&[32_767], &[0], &[2]), [0, 15]);
+    assert_eq!(of(&[1], &[0], &[2]), [0, 15]);
+    assert_eq!(of(&[32_767, 32_768], &[0, 0], &[2]), [15, 15]);
+}
+
+/// Of every three faults the first refuses, with zeros and an untouched list.
+#[test]
+fn the_first_fault_refuses() {
+    for (refusal, (t, second, query, lent)) in search_cases::faulty().filter(|(first, _)| *first != 0) {
+        let mut answer = lent.clone();
+        let got = t.search(&second, &query, &mut answer);
+        assert_eq!((got, &answer), (Answer { refusal, ..Answer::default() }, &lent));
+        assert_eq!(slow::search_refusal(&t, &second, &query, lent.len()), refusal);
+    }
+}
+
+/// The program's second index is empty: a plant text with a higher term is read, and its asks are refused.
+#[test]
+fn responses_at_the_limit() {
+    let plant = |term: u32| format!("(plant\n(dev 5\n)\n(mark {term}\n(own 1)\n)\n)\n").into_bytes();
+    row_is(&plant(32_767), ("(need 32767)\n", &[1], 2, 0, 0));
+    row_is(&plant(32_767), ("(need 32768)\n", &[], 2, 0, 0));
+    for term in [32_768, 65_535] {
+        assert!(read_plant(&plant(term), [1; 6]).is_ok());
+        for ask in ["", "(need 7)\n", "(need 0)\n", "(level 2 1)\n", "(from 3)\n"] {
+            assert_eq!(response(&plant(term), ask), "(refused query 15)\n");
+        }
+        assert_eq!(response(&plant(term), "(need 07)\n"), "(refused ask 31 2)\n");
+        assert_eq!(response(&plant(term)[..9], ""), "(refused plant 24 2)\n");
+    }
+}
+
+/// Random searches.
+fn searches() -> impl Iterator<Item = Case> {
+    let mut r = Random(1);
+    (0..20_000).map(move |_| search_cases::case(&mut r))
+}
+
+/// A search in one index, as before there were two.
+fn in_one(t: &Tables, q: &Query, answer: &mut [u16]) -> Answer {
+    let of_tables = t.check();
+    match if of_tables != 0 { of_tables } else { t.query_refusal(q, answer.len()) } {
+        0 => t.run(|term| t.list_of(term), q, answer),
+        refusal => Answer { refusal, ..Answer::default() },
+    }
+}
+
+/// With an empty second index, all is as before for tables without its terms.
+#[test]
+fn one_index_as_before() {
+    for case in searches() {
+        let Case::Search(t, _, q, lent) = case else { unreachable!() };
+        if t.terms.iter().all(|&term| term < LIMIT) {
+            let (mut before, mut after) = (lent.clone(), lent);
+            let answers = (in_one(&t, &q, &mut before), t.search(&Index::default(), &q, &mut after));
+            assert_eq!((answers.0, before), (answers.1, after));
+        }
+    }
+}
+
+/// An accepted search in two indexes is one in an index with the terms of both: it does not matter which is looked into first.
+#[test]
+fn two_indexes_as_one() {
+    for case in searches() {
+        let outcome = case.expected();
+        let (Case::Search(t, second, q, mut answer), Outcome::Answer(got, listing)) = (case, outcome) else { unreachable!() };
+        if got.refusal == 0 {
+            let one = slow::joined(&t, &second);
+            assert_eq!((one.run(|term| one.list_of(term), &q, &mut answer), answer), (got, listing));
+        }
+    }
+}
+
+#[test]
+fn searches_reach_every_refusal() {
+    let mut systematic = vec![];
+    search_cases::systematic(&mut systematic);
+    let rows: BTreeSet<u32> = (0..=15).chain(55..=59).collect();
+    let searched = systematic.into_iter().filter(|case| matches!(case, Case::Search(..)));
+    assert_eq!(reached(searched), rows);
+    assert_eq!(reached(searches()), rows);
+}
+
+/// The slow evaluator alone finds each mistake of a search in two indexes.
+#[test]
+fn slow_finds_mistakes_of_searches() {
+    for k in 71..=99 {
+        assert!(searches().any(|case| case.against_slow(&Wrong(k).outcome(&case)).is_some()), "mistake {k}");
+    }
+}
+
 /// Every known mistake is found by the random cases alone.
 #[test]
 fn mistakes_are_found() {
-    for k in 1..=70 {
+    for k in 1..=MISTAKES {
         let mut r = Random(1);
         let mut cases = (0..100_000).map(|_| generate::case(&mut r));
         assert!(cases.any(|case| case.difference(&case.expected(), &Wrong(k)).is_some()), "mistake {k}");

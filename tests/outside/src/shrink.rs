@@ -1,6 +1,6 @@
 //! The smallest case found that still differs: parts are left out and numbers made smaller as long as it does.
 use crate::case::Case;
-use crate::paper::{self, Query, Tables};
+use crate::paper::{self, Index, Query, Tables};
 use crate::repair_cases::needed;
 use crate::Subject;
 
@@ -30,14 +30,14 @@ fn without_parts<T: Clone>(v: &[T]) -> impl Iterator<Item = Vec<T>> + '_ {
 fn candidates(case: &Case) -> Box<dyn Iterator<Item = Case> + '_> {
     match case {
         Case::Check(t) => Box::new(tables(t).map(Case::Check)),
-        Case::Search(t, q, answer) => {
-            let of_tables = tables(t).flat_map(|smaller| {
+        Case::Search(t, second, q, answer) => {
+            let of_both = both(t, second).flat_map(|(smaller, second)| {
                 let shorter = cut(answer, t.size() - smaller.size());
-                [Case::Search(smaller.clone(), q.clone(), shorter), Case::Search(smaller, q.clone(), answer.clone())]
+                [shorter, answer.clone()].map(|answer| Case::Search(smaller.clone(), second.clone(), q.clone(), answer))
             });
-            let of_queries = queries(q).into_iter().map(|q| Case::Search(t.clone(), q, answer.clone()));
-            let of_answers = without_parts(answer).map(|a| Case::Search(t.clone(), q.clone(), a));
-            Box::new(of_tables.chain(of_queries).chain(of_answers))
+            let of_queries = queries(q).into_iter().map(|q| Case::Search(t.clone(), second.clone(), q, answer.clone()));
+            let of_answers = without_parts(answer).map(|a| Case::Search(t.clone(), second.clone(), q.clone(), a));
+            Box::new(of_both.chain(of_queries).chain(of_answers))
         }
         Case::Plant(text, room) => {
             let read = paper::read_plant(text, *room).into_iter();
@@ -117,32 +117,52 @@ fn queries(q: &Query) -> Vec<Query> {
 
 /// Tables without a term, without a device (what follows is numbered anew), or with one table shorter.
 fn tables(t: &Tables) -> impl Iterator<Item = Tables> + '_ {
-    let count = if t.starts.len() == t.terms.len() { t.terms.len() } else { 0 };
-    let terms = (0..count).step_by(count / 64 + 1).filter_map(|k| without_term(t, k));
-    let n = t.size();
-    let devices = [n / 2, n / 8, 1].into_iter().filter(|&part| part > 0).flat_map(move |part| {
-        let tops = (1..=n).step_by(part.max(n / 64 + 1));
-        tops.map(move |d| without_devices(t, d, (d + part - 1).min(n)))
-    });
+    let terms = places(&t.terms, &t.starts).filter_map(|k| Some(t.with(&without_term(t.index(), k)?)));
+    let devices = stretches(t.size()).map(|(from, to)| without_devices(t, from, to));
     let levels = without_parts(&t.level).map(|level| Tables { level, ..t.clone() });
     let postings = without_parts(&t.postings).map(|postings| Tables { postings, ..t.clone() });
     terms.chain(devices).chain(levels).chain(postings)
 }
 
-fn without_term(t: &Tables, k: usize) -> Option<Tables> {
-    let mut smaller = t.clone();
-    let start = t.starts[k] as usize;
-    let end = t.starts.get(k + 1).map_or(t.postings.len(), |&s| s as usize);
-    if start > end || end > t.postings.len() {
+/// Tables and the second index: without the second, without devices in both, or with one of them smaller.
+fn both<'a>(t: &'a Tables, second: &'a Index) -> impl Iterator<Item = (Tables, Index)> + 'a {
+    let without = (*second != Index::default()).then(|| (t.clone(), Index::default()));
+    let devices =
+        stretches(t.size()).map(|(from, to)| (without_devices(t, from, to), without_devices(&t.with(second), from, to).index()));
+    let terms = places(&second.terms, &second.starts).filter_map(|k| without_term(second.clone(), k));
+    let postings = without_parts(&second.postings).map(|postings| Index { postings, ..second.clone() });
+    let of_first = tables(t).map(|smaller| (smaller, second.clone()));
+    let of_second = terms.chain(postings).map(|smaller| (t.clone(), smaller));
+    without.into_iter().chain(devices).chain(of_first).chain(of_second)
+}
+
+/// Places of terms to leave out, where each has a start.
+fn places(terms: &[u16], starts: &[u32]) -> impl Iterator<Item = usize> {
+    let count = if starts.len() == terms.len() { terms.len() } else { 0 };
+    (0..count).step_by(count / 64 + 1)
+}
+
+/// Stretches of devices to leave out: long ones first.
+fn stretches(n: usize) -> impl Iterator<Item = (usize, usize)> {
+    [n / 2, n / 8, 1].into_iter().filter(|&part| part > 0).flat_map(move |part| {
+        let tops = (1..=n).step_by(part.max(n / 64 + 1));
+        tops.map(move |d| (d, (d + part - 1).min(n)))
+    })
+}
+
+fn without_term(mut index: Index, k: usize) -> Option<Index> {
+    let start = index.starts[k] as usize;
+    let end = index.starts.get(k + 1).map_or(index.postings.len(), |&s| s as usize);
+    if start > end || end > index.postings.len() {
         return None;
     }
-    smaller.terms.remove(k);
-    smaller.starts.remove(k);
-    smaller.postings.drain(start..end);
-    for s in &mut smaller.starts[k..] {
+    index.terms.remove(k);
+    index.starts.remove(k);
+    index.postings.drain(start..end);
+    for s in &mut index.starts[k..] {
         *s = s.saturating_sub((end - start) as u32);
     }
-    Some(smaller)
+    Some(index)
 }
 
 fn without_devices(t: &Tables, from: usize, to: usize) -> Tables {

@@ -1,6 +1,16 @@
 //! The slow unshared evaluator: what matches, by writing every list out, and what is promised of a run, with no cursor in it; what
-//! is promised of a repair and of a tightening.
-use crate::paper::{device_of, Answer, Query, Tables};
+//! is promised of a repair and of a tightening. Two indexes are one with the terms of both.
+use crate::paper::{device_of, Answer, Index, Query, Tables};
+
+/// One index with the terms of the first and, after them, those of the second.
+pub fn joined(t: &Tables, second: &Index) -> Tables {
+    let moved = second.starts.iter().map(|start| start + t.postings.len() as u32);
+    t.with(&Index {
+        terms: [t.terms.as_slice(), &second.terms].concat(),
+        starts: t.starts.iter().copied().chain(moved).collect(),
+        postings: [t.postings.as_slice(), &second.postings].concat(),
+    })
+}
 
 /// The last device that a posting carries its term to.
 fn end_of(tables: &Tables, posting: u32) -> usize {
@@ -120,6 +130,30 @@ fn check_index(t: &Tables) -> u32 {
         return 9;
     }
     0
+}
+
+/// The refusals of a search with so much room in the answer list: of tables and first index, of the second index, then the first
+/// of the rows after these.
+pub fn search_refusal(t: &Tables, second: &Index, q: &Query, room: usize) -> u32 {
+    let of_tables = check(t);
+    if of_tables != 0 {
+        return of_tables;
+    }
+    let of_second = check_index(&t.with(second));
+    if of_second != 0 {
+        return 50 + of_second;
+    }
+    let n = t.size();
+    let (low, high) = q.levels.unwrap_or((1, 254));
+    let rows = [
+        (15, t.terms.iter().any(|term| term / 32_768 == 1) || second.terms.iter().any(|term| term / 32_768 == 0)),
+        (10, q.required.len().max(q.forbidden.len()) > 8),
+        (11, [q.required.as_slice(), &q.forbidden].concat().iter().any(|&term| term == 0 || term > 65_535)),
+        (12, !(0 < low && low <= high && high < 255)),
+        (13, !(1..n + 2).contains(&(q.start as usize))),
+        (14, room < n),
+    ];
+    rows.iter().find(|(_, applies)| *applies).map_or(0, |(number, _)| *number)
 }
 
 /// The refusals of a repair with so much room in the report, each posting against each.

@@ -2,6 +2,7 @@
 use crate::case::{lent, Case, Outcome};
 use crate::paper::{device_of, Answer, Move, Tables};
 use crate::repair::chosen;
+use crate::search_mistakes::{misresponded, missearched};
 use crate::{ffi, Subject};
 
 pub struct Archive;
@@ -10,9 +11,9 @@ impl Subject for Archive {
     fn outcome(&self, case: &Case) -> Outcome {
         match case {
             Case::Check(t) => Outcome::Number(ffi::check(t)),
-            Case::Search(t, q, answer) => {
+            Case::Search(t, second, q, answer) => {
                 let mut answer = answer.clone();
-                Outcome::Answer(ffi::search(t, q, &mut answer), answer)
+                Outcome::Answer(ffi::search(t, second, q, &mut answer), answer)
             }
             Case::Plant(text, room) => {
                 let mut t = lent(*room);
@@ -51,19 +52,19 @@ impl Subject for Wrong {
         let mut case = case.clone();
         match (self.0, &mut case) {
             // 255 satisfies a window that reaches 254
-            (1, Case::Search(t, q, _)) if q.levels.is_some_and(|(_, high)| high == 254) => {
+            (1, Case::Search(t, _, q, _)) if q.levels.is_some_and(|(_, high)| high == 254) => {
                 t.level.iter_mut().filter(|l| **l == 255).for_each(|l| *l = 254);
             }
             // 0 satisfies a window from 1
-            (19, Case::Search(t, q, _)) if q.levels.is_some_and(|(low, _)| low == 1) => {
+            (19, Case::Search(t, _, q, _)) if q.levels.is_some_and(|(low, _)| low == 1) => {
                 t.level.iter_mut().filter(|l| **l == 0).for_each(|l| *l = 1);
             }
             // a low of 0 is taken
-            (20, Case::Search(_, q, _)) if q.levels.is_some_and(|(low, _)| low == 0) => {
+            (20, Case::Search(_, _, q, _)) if q.levels.is_some_and(|(low, _)| low == 0) => {
                 q.levels = q.levels.map(|(_, high)| (1, high));
             }
             // the lowest true level is refused
-            (21, Case::Search(_, q, _)) if q.levels.is_some_and(|(low, _)| low == 1) => {
+            (21, Case::Search(_, _, q, _)) if q.levels.is_some_and(|(low, _)| low == 1) => {
                 q.levels = q.levels.map(|(_, high)| (0, high));
             }
             // a device line with level 0 is refused
@@ -73,8 +74,9 @@ impl Subject for Wrong {
                 }
             }
             // an unknown required term is no condition
-            (2, Case::Search(t, q, _)) => {
-                q.required.retain(|&term| !(1..=65_535).contains(&term) || t.terms.contains(&(term as u16)));
+            (2, Case::Search(t, second, q, _)) => {
+                let known = |term: u32| [&t.terms, &second.terms].iter().any(|terms| terms.contains(&(term as u16)));
+                q.required.retain(|&term| !(1..=65_535).contains(&term) || known(term));
             }
             // a redundant posting passes where it is not right after the shared one
             (3, Case::Check(t)) if t.check() == 9 && t.postings.len() > 4 => return Outcome::Number(0),
@@ -120,7 +122,7 @@ impl Subject for Wrong {
             // the landing counts as passed
             (13, _, outcome) => passing(&case, outcome, |made| made.iter().map(|m| m.to - m.from).sum()),
             // a cursor that stays where it is for a device that is listed counts as passing one
-            (14, Case::Search(_, q, _), Outcome::Answer(answer, listing)) => {
+            (14, Case::Search(_, _, q, _), Outcome::Answer(answer, listing)) => {
                 let stays = answer.count * (q.required.len() + q.forbidden.len()) as u32;
                 Outcome::Answer(Answer { passed: answer.passed + stays, ..answer }, listing)
             }
@@ -141,14 +143,25 @@ impl Subject for Wrong {
                 let (refusal, numbers, after, told) = misrepaired(self.0, t, report, (refusal, numbers, after, told));
                 Outcome::Repaired(refusal, numbers, after, told)
             }
-            (40.., Case::Tighten(t), Outcome::Tightened(refusal, count, after)) => {
+            (40..=70, Case::Tighten(t), Outcome::Tightened(refusal, count, after)) => {
                 let (refusal, count, after) = mistightened(self.0, t, (refusal, count, after));
                 Outcome::Tightened(refusal, count, after)
+            }
+            (71..=99, Case::Search(t, second, q, lent), Outcome::Answer(answer, listing)) => {
+                let (answer, listing) = missearched(self.0, (t, second, q, lent), (answer, listing));
+                Outcome::Answer(answer, listing)
+            }
+            (100.., Case::Respond(plant, query), Outcome::Bytes(length, bytes)) => {
+                misresponded(self.0, plant, query).map_or(Outcome::Bytes(length, bytes), printed)
             }
             (_, _, outcome) => outcome,
         }
     }
 }
+
+/// How many mistakes there are.
+#[cfg(test)]
+pub const MISTAKES: u64 = 104;
 
 /// A repair: the refusal, how many were dropped and how many there are now, the tables and the report.
 type Repaired = (u32, [usize; 2], Tables, Vec<u32>);
@@ -424,11 +437,18 @@ fn first_tightened(t: &Tables) -> Vec<u32> {
     first.postings
 }
 
+/// These bytes at the front of what is lent to a response.
+fn printed(mut text: Vec<u8>) -> Outcome {
+    let length = text.len();
+    text.resize(16384, 0xee);
+    Outcome::Bytes(length, text)
+}
+
 /// The outcome of a search, where an accepted one counts passed in this way.
 fn passing(case: &Case, outcome: Outcome, passed: impl Fn(&[Move]) -> usize) -> Outcome {
     match (case, outcome) {
-        (Case::Search(t, q, _), Outcome::Answer(answer, listing)) if answer.refusal == 0 => {
-            Outcome::Answer(Answer { passed: passed(&t.moves(q)) as u32, ..answer }, listing)
+        (Case::Search(t, second, q, _), Outcome::Answer(answer, listing)) if answer.refusal == 0 => {
+            Outcome::Answer(Answer { passed: passed(&t.moves(second, q)) as u32, ..answer }, listing)
         }
         (_, outcome) => outcome,
     }

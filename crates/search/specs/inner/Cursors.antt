@@ -10,7 +10,6 @@ use lib.Seq.{sets}
 use Rattle.laws.specs.Limits.{most-devices}
 use Rattle.laws.specs.Tables.{entry}
 use Rattle.laws.specs.inner.Entries.{IsEntry}
-use Rattle.index.specs.Index.{Index, list-of}
 use Rattle.index.specs.inner.Lists.{SoundList}
 use Rattle.steps.specs.Moves as steps
 use Rattle.steps.specs.Moves.{behind}
@@ -91,10 +90,18 @@ pub record Lists (last : List ℕ) (ls : List (List ℕ)) : Type 0 where
   pub few : length ls ≤ most-cursors
   pub each : (k : ℕ) → k < length ls → SoundList last (getD ls k [])
 
--- from index f on, an array of slices has been set to the lists of the terms that are named; those before are kept
-pub record Gathers (I : Index) (named : List ℕ) (f : ℕ) (slices slices′ : List (RefT (List ℕ))) : Type 0 where
+-- from index f on, an array of slices has been set to the lists that a lookup gives of the terms named; those before are kept
+pub record Gathers (list : ℕ → List ℕ) (named : List ℕ) (f : ℕ) (slices slices′ : List (RefT (List ℕ))) : Type 0 where
   pub long : length slices′ ≡ most-cursors
-  pub same : take (f + length named) (map now slices′) ≡ take f (map now slices) ++ map (list-of I) named
+  pub same : take (f + length named) (map now slices′) ≡ take f (map now slices) ++ map list named
+
+-- the first n slices have been set to the lists of the required terms, which are k, and then to those of the forbidden ones
+pub record GathersAll (list : ℕ → List ℕ) (required forbidden : List ℕ) (k : ℕ) (slices : List (RefT (List ℕ))) (n : ℕ) : Type 0 where
+  pub long : length slices ≡ most-cursors
+  pub first : k ≡ length required
+  pub count : n ≡ length (required ++ forbidden)
+  pub few : n ≤ most-cursors
+  pub same : take n (map now slices) ≡ map list (required ++ forbidden)
 
 -- where a run begins: each cursor on the first posting of its list
 abbrev pub begin : ℕ → List (List ℕ) → List runs.Cursor

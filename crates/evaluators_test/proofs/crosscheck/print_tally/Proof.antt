@@ -5,10 +5,10 @@ use Rattle.evaluators_test.proofs.crosscheck.print_tally.Tie as tie
 use borrow.Author.Needs.{needs}
 
 abbrev Inv-loop : tie.InvT-loop
-Inv-loop tally k₀ t3 k = Unit {0}
+Inv-loop tally i₀ i = Unit {0}
 
 abbrev μ-loop : tie.MeasureT-loop
-μ-loop tally k₀ t3 k = 15 - k
+μ-loop tally i₀ i = 21 - i
 
 pub print-tally-spec : {M : Type 1} → statement M
 print-tally-spec =
@@ -17,10 +17,7 @@ print-tally-spec =
     Inv-loop
     μ-loop
     (λ c. search needs)
-    (λ c. search needs)
-    (λ c. search needs)
-    (λ c. search needs)
-    (λ c. search needs)
+    (λ c κs. search needs)
     (λ c κs. search needs)
     (λ c. search needs)
     (λ c. search needs)

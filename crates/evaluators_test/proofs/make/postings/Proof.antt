@@ -4,10 +4,10 @@ use Rattle.evaluators_test.proofs.make.postings.Tie as tie
 use borrow.Author.Needs.{needs}
 
 abbrev Inv-loop : tie.InvT-loop
-Inv-loop seed₀ n k last starts₀ postings₀ p₀ covered₀ t₀ d₀ turns₀ seed starts postings p covered t d turns = Unit {0}
+Inv-loop seed₀ n k is-redundant last starts₀ postings₀ p₀ covered₀ t₀ d₀ turns₀ seed starts postings p covered t d turns = Unit {0}
 
 abbrev μ-loop : tie.MeasureT-loop
-μ-loop seed₀ n k last starts₀ postings₀ p₀ covered₀ t₀ d₀ turns₀ seed starts postings p covered t d turns = turns
+μ-loop seed₀ n k is-redundant last starts₀ postings₀ p₀ covered₀ t₀ d₀ turns₀ seed starts postings p covered t d turns = turns
 
 pub postings-spec : {M : Type 1} → statement M
 postings-spec =

@@ -9,10 +9,10 @@ use Rattle.index.proofs.refusals.any_fault.Statement.{statement}
 use Rattle.index.proofs.refusals.any_fault.Tie as tie
 
 abbrev Inv-loop : tie.InvT-loop
-Inv-loop last checked starts postings k₀ k = Over (faulty last) starts postings k
+Inv-loop last starts postings k₀ k = Over (faulty last) starts postings k
 
 abbrev μ-loop : tie.MeasureT-loop
-μ-loop last checked starts postings k₀ k = length starts - k
+μ-loop last starts postings k₀ k = length starts - k
 
 pub any-fault-spec : {M : Type 1} → statement M
 any-fault-spec =

@@ -33,12 +33,12 @@ returns c =
 returns-2 : tie.Need-returns-2
 returns-2 c =
     let s = c .before .before .before .before .before .before .before .before .before in
-    told (plant-of s) (index-of s) (c .before .before .check .ensures) (c .before .if1 .left) (c .rows-over .ensures)
+    told (plant-of s) (index-of s) (c .before .before .check .ensures) (c .before .if1 .left) (c .rows .ensures)
 
-rows-over-requires : tie.Need-rows-over-requires
-rows-over-requires c κs =
+rows-requires : tie.Need-rows-requires
+rows-requires c κs =
     let s = c .before .before .before .before .before .before .before .before in
-    λ _. branches-held (plant-of s) (sym (c .before .check .ensures) ∙ c .if1 .left)
+    branches-held (plant-of s) (sym (c .before .check .ensures) ∙ c .if1 .left)
 
 pub check-spec : {M : Type 1} → statement M
-check-spec = tie.close (tie.spec (λ c κs. search needs) returns rows-over-requires returns-2)
+check-spec = tie.close (tie.spec (λ c κs. search needs) returns rows-requires returns-2)

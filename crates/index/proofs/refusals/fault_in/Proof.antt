@@ -1,37 +1,19 @@
--- `index::refusals::fault_in` meets its contract: no posting so far has a fault, and `before` and `reached` are the device and the reach of the last of them.
-use Prim.Native.Nat.{_-_, _≤_, _<_}
-use mathlib.Core.Path.{sym, _∙_}
-use denote.Ref.{now}
+-- `index::refusals::fault_in` meets its contract: no posting so far has a fault, and `reached` is the reach of the last of them.
+use Prim.Native.Nat.{_-_}
 use borrow.Author.Needs.{needs}
 use native.Mathlib.Omega.{arith}
 use lib.ListN.{length}
-use Rattle.index.proofs.Faults.{Clear, clear-start, clear-fault, clear-beyond, clear-turn, clear-end}
+use Rattle.laws.proofs.Cases.{cases}
+use Rattle.laws.proofs.Tests.{flags}
+use Rattle.index.proofs.Faults.{Clear, clear-start, clear-near, clear-high, clear-turn, clear-end}
 use Rattle.index.proofs.refusals.fault_in.Statement.{statement}
 use Rattle.index.proofs.refusals.fault_in.Tie as tie
 
 abbrev Inv-loop : tie.InvT-loop
-Inv-loop last checked list before₀ reached₀ k₀ before reached k = Clear last list k before reached
+Inv-loop last list reached₀ k₀ reached k = Clear last list k reached
 
 abbrev μ-loop : tie.MeasureT-loop
-μ-loop last checked list before₀ reached₀ k₀ before reached k = length list - k
-
-returns : tie.Need-returns Inv-loop μ-loop
-returns c =
-    clear-fault (c .before .before .before .before .before .loop .inv) (c .before .before .before .before .before .before .before .before .args .checked) (omega arith) (c .before .before .device-of .ensures) (sym (c .before .at-fault .ensures) ∙ c .if1 .taken)
-
--- past the test
-beyond : (c : tie.Else1 Inv-loop μ-loop) → let d = c .before .before in (d .before .before .before .loop .before < d .device-of .result)
-    × (d .before .before .before .loop .reached < d .device-of .result) × (d .device-of .result ≤ length (now (d .before .before .before .before .before .before .args .last)))
-beyond c =
-    clear-beyond (c .before .before .before .before .before .loop .inv) (c .before .before .before .before .before .before .before .before .args .checked) (c .before .before .before .before .before .before .before .before .pre) (sym (c .before .at-fault .ensures) ∙ c .if1 .left)
-
-reach-of-requires : tie.Need-reach-of-requires Inv-loop μ-loop
-reach-of-requires c κs = let b = beyond c in record { first = omega arith; last = omega arith }
-
-loop-again : tie.Need-loop-again Inv-loop μ-loop
-loop-again c =
-    let b = beyond (c .before) in
-    clear-turn (c .before .before .before .before .before .before .loop .inv) (omega arith) (omega arith) (c .before .before .before .device-of .ensures) (c .reach-of .ensures)
+μ-loop last list reached₀ k₀ reached k = length list - k
 
 pub fault-in-spec : {M : Type 1} → statement M
 fault-in-spec =
@@ -41,10 +23,14 @@ fault-in-spec =
     (λ c. search needs)
     (λ c. search needs)
     (λ c κs. search needs)
-    (λ c κs. search needs)
-    returns
-    reach-of-requires
+    (λ c. let i = c .before .before .before .before .loop .inv in
+    let d = c .before .device-of .ensures in
+    cases (c .if1 .came) (λ w. clear-near i (omega arith) (omega (flags, d, w))) (λ w. clear-high i (omega arith) (omega (flags, d, w .1 .taken))))
+    (λ c κs. let d = c .before .before .device-of .ensures in
+    record { first = omega (flags, d, c .before .if1 .left); last = omega (flags, d, c .if2 .left) })
     (λ c. search needs)
     (λ c. search needs)
-    loop-again
+    (λ c. let d = c .before .before .before .device-of .ensures in
+    clear-turn (c .before .before .before .before .before .before .loop .inv) (c .before .before .before .before .before .before .before .before .before .pre) (omega arith)
+    (omega (flags, d, c .before .before .if1 .left), omega (flags, d, c .before .if2 .left)) (c .reach-of .ensures))
     (λ c. clear-end (c .before .loop .inv) (omega arith)))
