@@ -3,7 +3,7 @@ use Prim.Native.Nat.{ℕ, zero, suc, _+_, _<_}
 use native.Mathlib.Omega.{arith}
 use mathlib.Core.Bool.{false}
 use mathlib.Core.List.{List, [], _∷_, _++_, map}
-use mathlib.Core.Path.{_≡_, refl, sym, _∙_}
+use mathlib.Core.Path.{_≡_, refl, sym, _∙_, subst}
 use denote.Ref.{RefT, now}
 use lib.ListN.{length, getD, take, length-map}
 use lib.Seq.{take-at}
@@ -18,7 +18,7 @@ use Rattle.index.specs.Index.{Index, tables-refusal}
 use Rattle.index.specs.inner.Lists.{SoundList}
 use Rattle.index.proofs.Accepted as index-laws
 use Rattle.index.proofs.Accepted.{sound-rising}
-use Rattle.two_indexes.specs.Indexes.{Indexes, any-second, list-of, indexes-refusal}
+use Rattle.two_indexes.specs.Indexes.{Indexes, indexes, alone, any-second, list-of, indexes-refusal}
 use Rattle.two_indexes.proofs.Accepted.{accepted, accepted-list, of-both, alone-list, alone-refusal}
 use Rattle.steps.specs.Matching.{matches}
 use Rattle.steps.specs.Steps as runs
@@ -127,7 +127,7 @@ promised P S q room h =
     }
 
 -- the theorem on an empty second index
-as-before : (P : Plant) (I : Index) (q : Query) (room : ℕ) → AsBefore P I q room
+as-before : (P : Plant) (I : Index) (q : Query) (room : ℕ) → AsBefore P (alone I) q room
 unfolding search-refusal
 as-before P I q room = record {
   refused = rw (alone-refusal P I) (otherwise-pick (tables-refusal P I) (any-second (I .terms)) 14 (query-refusal (size P) room q));
@@ -138,7 +138,7 @@ as-before P I q room = record {
 pub over-both : (P : Plant) (S : Indexes) (q : Query) (room : ℕ) → OverBoth P S q room
 over-both P S q room = record {
   both = λ h. of-both P S (admitted P S q room h .indexes);
-  before = λ e. as-before P (S .first) q room;
+  before = λ e. subst (λ (J : Index). AsBefore P (indexes (S .first) J) q room) (sym e) (as-before P (S .first) q room);
 }
 
 module _ (P : Plant) (S : Indexes) (q : Query) {out : List ℕ} {n : ℕ} (e : n ≡ search-refusal P S q (length out)) where

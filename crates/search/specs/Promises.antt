@@ -9,8 +9,8 @@ use Rattle.laws.specs.Tables.{entry}
 use Rattle.plant.specs.Plant.{Plant, size}
 use Rattle.plant.specs.Levels.{true-level}
 use Rattle.index.specs.Index as one
-use Rattle.index.specs.Index.{Index, index}
-use Rattle.two_indexes.specs.Indexes.{Indexes, alone, any-second, list-of}
+use Rattle.index.specs.Index.{index}
+use Rattle.two_indexes.specs.Indexes.{Indexes, any-second, list-of}
 use Rattle.steps.specs.Matching.{matches}
 use Rattle.steps.specs.Promises.{ListsExactly, KeepsBudget}
 use Rattle.query.specs.Query.{any-code}
@@ -29,18 +29,20 @@ pub record Promised (P : Plant) (list : ℕ → List ℕ) (q : Query) (listed : 
   pub budget : KeepsBudget (P .last) (P .root) list (criteria P q) (q .budget)
       (record { listed = listed; position = position; counts = record { moves = moves; passed = passed }; short = short; cursors = ended P list q (q .budget) .cursors })
 
--- with an empty second index all is as before
-pub record AsBefore (P : Plant) (I : Index) (q : Query) (room : ℕ) : Type 0 where
+-- all is as it was with the first index alone
+pub record AsBefore (P : Plant) (S : Indexes) (q : Query) (room : ℕ) : Type 0 where
   -- but for a term from 32,768 up, which has no index then: 15
-  pub refused : search-refusal P (alone I) q room ≡ otherwise (one.tables-refusal P I) (pick (any-second (I .terms)) 15 (query-refusal (size P) room q))
+  pub refused : search-refusal P S q room
+      ≡ otherwise (one.tables-refusal P (S .first)) (pick (any-second (S .first .terms)) 15 (query-refusal (size P) room q))
   -- each term has its list of the one index. What matches, the steps, the lists named and all that is promised speak of the lists alone.
-  pub lists : any-second (I .terms) ≡ false → list-of (alone I) ≡ one.list-of I
+  pub lists : any-second (S .first .terms) ≡ false → list-of S ≡ one.list-of (S .first)
 
 -- of two indexes
 pub record OverBoth (P : Plant) (S : Indexes) (q : Query) (room : ℕ) : Type 0 where
   -- the lookup leaves no posting of either out: a term has the postings that it has in the first, and those that it has in the second
   pub both : search-refusal P S q room ≡ 0 → (t : ℕ) → list-of S t ≡ one.list-of (S .first) t ++ one.list-of (S .second) t
-  pub before : S .second ≡ index [] [] [] → AsBefore P (S .first) q room
+  -- where the second is empty, all is as before
+  pub before : S .second ≡ index [] [] [] → AsBefore P S q room
 
 -- r and the answer list, which was `out`
 pub record Searched (P : Plant) (S : Indexes) (q : Query) (out out′ : List ℕ) (r : Answer) : Type 0 where
