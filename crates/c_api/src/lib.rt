@@ -38,9 +38,9 @@ pub extern "C" fn plant_search_check(
     index::check(last, root, level, terms, starts, postings)
 }
 
-// Searches two indexes for the devices that carry all required terms and no forbidden one. Any level code is wanted where `ranged` is 0, else those of a
-// range. The listing goes to the front of `out`; `numbers` is set to the number of devices listed, the position, the postings passed over and
-// the moves.
+// Searches two indexes for the devices that carry all required terms and no forbidden one. Any level code is wanted where `ranged` is 0, else
+// those of a range. The listing goes to the front of `out`; `numbers` is set to the number of devices listed, the position, the postings passed
+// over and the moves.
 #[no_mangle]
 pub extern "C" fn plant_search_search<'a>(
     last: &[u16],

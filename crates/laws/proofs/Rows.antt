@@ -1,6 +1,6 @@
 -- Tables of refusals, one after another.
 use Prim.Native.Nat.{ℕ, zero, suc, _≤_}
-use mathlib.Core.Path.{_≡_, refl}
+use mathlib.Core.Path.{_≡_, refl, sym, _∙_}
 use mathlib.Core.Bool.{Bool, true, false, _||_}
 use native.Mathlib.Omega.{arith}
 use Rattle.laws.specs.Rows.{pick, otherwise}
@@ -13,6 +13,14 @@ otherwise-first (suc n) rest h = refl
 -- the first table does not
 pub otherwise-next : (n rest : ℕ) → n ≡ 0 → otherwise n rest ≡ rest
 otherwise-next n rest h = rw h
+
+-- so the refusal of the first, found as r, is that of both, or else what the second comes to is
+module _ (a rest : ℕ) {r : ℕ} (e : r ≡ a) where
+  pub refused-first : (r ≡ 0 → ⊥) → r ≡ otherwise a rest
+  refused-first h = e ∙ sym (otherwise-first a rest (λ z. h (e ∙ z)))
+
+  pub refused-next : {n : ℕ} → r ≡ 0 → n ≡ rest → n ≡ otherwise a rest
+  refused-next z f = f ∙ sym (otherwise-next a rest (sym e ∙ z))
 
 -- neither table refuses
 pub otherwise-none : (n rest : ℕ) → otherwise n rest ≡ 0 → (n ≡ 0) × (rest ≡ 0)

@@ -1,6 +1,5 @@
 // The refusals of a query: small tables, one after another, as the definition has them. Each can be asked of any query.
 ghost use mathlib.Core.Path.{_≡_};
-ghost use Rattle.laws.specs.Rows.{otherwise};
 ghost use Rattle.query.specs.Query.{used};
 ghost use Rattle.query.specs.Refusals.{no-terms, no-range, count-rows, term-rows, level-rows, start-rows, room-rows, common-refusal, query-refusal};
 ghost use Rattle.query.specs.declared.Levels.{Levels};
@@ -9,13 +8,7 @@ use crate::Query;
 use crate::Terms;
 use crate::range::true_level;
 use integers::least;
-
-// A table after another: the first refusal, or, where that is 0, the second.
-fn otherwise(first: u32, rest: u32) -> u32
-    ensures { λ r. ⌜ r ≡ otherwise first rest ⌝ }
-{
-    if first == 0 { rest } else { first }
-}
+use integers::otherwise;
 
 // Whether a term of a list is none.
 fn no_terms(terms: &[u32]) -> bool

@@ -9,7 +9,7 @@ use Rattle.laws.specs.Rows.{pick}
 use Rattle.laws.specs.Search.{any}
 use Rattle.laws.proofs.Tests.{or-yes, or-no}
 use Rattle.laws.proofs.Cases.{either}
-use Rattle.laws.proofs.Rows.{otherwise-first, otherwise-next}
+use Rattle.laws.proofs.Rows.{otherwise-next, refused-first}
 use Rattle.plant.specs.Plant.{Plant, plant-refusal}
 use Rattle.index.specs.Index.{Index, count, outline-rows}
 use Rattle.index.specs.inner.Outlined.{Outlined}
@@ -28,7 +28,7 @@ refused P I room e h = record { refusal-is = e; left-is = λ z. absurd (h z) }
 module _ (P : Plant) (I : Index) (room : ℕ) {n : ℕ} (e : n ≡ plant-refusal P) where
   pub judge-tables : (n ≡ 0 → ⊥) → Judges P I room (record { refusal = n; left = 0 })
   unfolding repair-refusal
-  judge-tables h = refused P I room (e ∙ sym (otherwise-first (plant-refusal P) _ (λ z. h (e ∙ z)))) h
+  judge-tables h = refused P I room (refused-first (plant-refusal P) _ e h) h
 
   module _ (z : n ≡ 0) where
     tables : plant-refusal P ≡ 0

@@ -8,7 +8,7 @@ use denote.Ref.{RefT, now}
 use lib.ListN.{length, getD, take, length-map}
 use lib.Seq.{take-at}
 use Rattle.laws.specs.Tables.{entry}
-use Rattle.laws.proofs.Rows.{otherwise-first, otherwise-next, otherwise-none, otherwise-pick}
+use Rattle.laws.proofs.Rows.{otherwise-none, otherwise-pick, refused-first, refused-next}
 use Rattle.laws.proofs.Maps.{map-take}
 use Rattle.laws.proofs.Tests.{and-no}
 use Rattle.plant.specs.Plant.{Plant, size}
@@ -91,11 +91,11 @@ run-ended P list q e x = rw e at x
 module _ (P : Plant) (S : Indexes) (q : Query) (room : ℕ) {t : ℕ} (e : t ≡ indexes-refusal P S) where
   pub refused-before : (t ≡ 0 → ⊥) → t ≡ search-refusal P S q room
   unfolding search-refusal
-  refused-before z = e ∙ sym (otherwise-first (indexes-refusal P S) _ (λ o. z (e ∙ o)))
+  refused-before = refused-first (indexes-refusal P S) (query-refusal (size P) room q) e
 
   pub refused-here : {r : ℕ} → t ≡ 0 → r ≡ query-refusal (size P) room q → r ≡ search-refusal P S q room
   unfolding search-refusal
-  refused-here z f = f ∙ sym (otherwise-next (indexes-refusal P S) _ (sym e ∙ z))
+  refused-here = refused-next (indexes-refusal P S) (query-refusal (size P) room q) e
 
 -- ---- the answer
 

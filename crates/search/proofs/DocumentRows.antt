@@ -87,8 +87,8 @@ rows = (
   record { answers = refl; lists = refl },
 )
 
--- two indexes: terms of either, both and neither; a list of the second that is empty; then a smallest example of each number, an index without
--- its starts, 55 before 15, and 15 before the query's own
+-- two indexes: terms of either, both and neither; a list of the second that is empty; then an example of each number, 55 before 15, and 15 before
+-- the query's own
 pub second-rows :
     Row P J (query (40_000 ∷ []) [] Levels.Any most) (3 ∷ []) 7 0 1
     × Row P J (query (7 ∷ 40_000 ∷ []) [] Levels.Any most) (3 ∷ []) 7 0 2

@@ -1,10 +1,10 @@
 // The check of device tables and two indexes.
 ghost use mathlib.Core.Path.{_≡_};
-ghost use Rattle.laws.specs.Rows.{otherwise};
 ghost use Rattle.plant.specs.Plant.{plant};
 ghost use Rattle.index.specs.Index.{index};
 ghost use Rattle.two_indexes.specs.Indexes.{indexes, indexes-refusal};
 ghost use Rattle.two_indexes.specs.inner.Rising.{AnySecond, AnyFirst, Misfiled};
+use integers::otherwise;
 
 // The refusal number of the device tables and the first index, 1 to 9, or else of the second, 55 to 59, or else 15 for a term in the wrong index,
 // or 0.
@@ -37,17 +37,7 @@ pub fn check(
         second_postings,
     );
     let misfiled = misfiled_row(terms, second_terms);
-    first_of(refused, misfiled)
-}
-
-// A number, or where it is 0 the next one.
-fn first_of(number: u32, next: u32) -> u32
-    ensures { λ r. ⌜ r ≡ otherwise number next ⌝ }
-{
-    if number == 0 {
-        return next;
-    }
-    number
+    otherwise(refused, misfiled)
 }
 
 // 15 where a term is in the wrong index, or 0; for terms that rise.

@@ -6,18 +6,18 @@ use borrow.Author.Needs.{needs}
 use Rattle.plant.specs.Plant.{Plant, plant, plant-refusal}
 use Rattle.index.specs.Index.{Index, index, index-rows, tables-refusal}
 use Rattle.index.proofs.Accepted.{branches-held}
-use Rattle.laws.proofs.Rows.{otherwise-first, otherwise-next}
+use Rattle.laws.proofs.Rows.{refused-first, refused-next}
 use Rattle.index.proofs.refusals.check.Statement.{statement}
 use Rattle.index.proofs.refusals.check.Tie as tie
 
 module _ (P : Plant) (I : Index) {r : ℕ} (e : r ≡ plant-refusal P) where
   refused : (r ≡ 0 → ⊥) → r ≡ tables-refusal P I
   unfolding tables-refusal
-  refused h = e ∙ sym (otherwise-first (plant-refusal P) (index-rows 5 (P .last) I) (λ z. h (e ∙ z)))
+  refused = refused-first (plant-refusal P) (index-rows 5 (P .last) I) e
 
   told : {n : ℕ} → r ≡ 0 → n ≡ index-rows 5 (P .last) I → n ≡ tables-refusal P I
   unfolding tables-refusal
-  told z w = w ∙ sym (otherwise-next (plant-refusal P) (index-rows 5 (P .last) I) (sym e ∙ z))
+  told = refused-next (plant-refusal P) (index-rows 5 (P .last) I) e
 
 abbrev plant-of : tie.Start → Plant
 plant-of s = plant (now (s .args .last)) (now (s .args .root)) (now (s .args .level))

@@ -2,7 +2,7 @@
 use mathlib.Core.Path.{sym, _∙_}
 use denote.Ref.{now}
 use borrow.Author.Needs.{needs}
-use Rattle.laws.proofs.Rows.{otherwise-first, otherwise-next}
+use Rattle.laws.proofs.Rows.{refused-first, refused-next}
 use Rattle.plant.specs.Plant.{Plant, plant}
 use Rattle.index.specs.Index.{Index, index, tables-refusal}
 use Rattle.index.proofs.Accepted.{accepted, branches-held}
@@ -18,8 +18,7 @@ I s = index (now (s .args .terms)) (now (s .args .starts)) (now (s .args .postin
 returns : tie.Need-returns
 returns c =
     let s = c .before .before .before .before .before .before .before .before .before .before .before in
-    let e = c .before .check .ensures in
-    e ∙ sym (otherwise-first (tables-refusal (P s) (I s)) _ (λ z. c .if1 .taken (e ∙ z)))
+    refused-first (tables-refusal (P s) (I s)) _ (c .before .check .ensures) (c .if1 .taken)
 
 rows-requires : tie.Need-rows-requires
 rows-requires c κs =
@@ -29,7 +28,7 @@ rows-requires c κs =
 returns-2 : tie.Need-returns-2
 returns-2 c =
     let s = c .before .before .before .before .before .before .before .before .before .before .before .before in
-    c .rows .ensures ∙ sym (otherwise-next (tables-refusal (P s) (I s)) _ (sym (c .before .before .check .ensures) ∙ c .before .if1 .left))
+    refused-next (tables-refusal (P s) (I s)) _ (c .before .before .check .ensures) (c .before .if1 .left) (c .rows .ensures)
 
 pub check-both-spec : {M : Type 1} → statement M
 check-both-spec = tie.close (tie.spec (λ c κs. search needs) returns rows-requires returns-2)

@@ -20,7 +20,7 @@ S s = indexes
 returns : tie.Need-returns
 returns c =
     let s = c .before .before .before .before .before .before .before .before .before .before .before .before in
-    c .first-of .ensures ∙ refused (P s) (S s) _ (c .before .before .check-both .ensures) (c .before .misfiled-row .ensures)
+    c .otherwise .ensures ∙ refused (P s) (S s) _ (c .before .before .check-both .ensures) (c .before .misfiled-row .ensures)
 
 pub check-spec : {M : Type 1} → statement M
 check-spec = tie.close (tie.spec (λ c κs. search needs) (λ c κs. search needs) (λ c κs. search needs) returns)

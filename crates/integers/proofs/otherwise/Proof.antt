@@ -1,8 +1,8 @@
--- `query::refusals::otherwise` meets its contract, by the branch taken.
+-- `integers::otherwise` meets its contract, by the branch taken.
 use Rattle.laws.proofs.Rows.{otherwise-first, otherwise-next}
 use mathlib.Core.Path.{sym}
-use Rattle.query.proofs.refusals.otherwise.Statement.{statement}
-use Rattle.query.proofs.refusals.otherwise.Tie as tie
+use Rattle.integers.proofs.otherwise.Statement.{statement}
+use Rattle.integers.proofs.otherwise.Tie as tie
 
 pub otherwise-spec : {M : Type 1} → statement M
 otherwise-spec =
