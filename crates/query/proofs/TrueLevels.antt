@@ -7,13 +7,14 @@ use lib.Dec.{ltb, eqb}
 use Rattle.laws.proofs.Cases.{by-order}
 use Rattle.laws.proofs.Tests.{tests, agree}
 use Rattle.plant.specs.Levels.{true-level}
-use Rattle.query.specs.Query.{in-range, any-code}
+use Rattle.query.specs.Query.{wants, any-code}
 use Rattle.query.specs.Refusals.{no-range}
 use Rattle.query.specs.declared.Levels.{Levels}
 
--- "0 is treated as 255 is": a code that is no true level is wanted where every code is
-pub untrue : (l : Levels) (code : ℕ) → true-level code ≡ false → in-range l code ≡ any-code l
+-- "0 is treated as 255 is": a code that is no true level is wanted where any code is
+pub untrue : (l : Levels) (code : ℕ) → true-level code ≡ false → wants l code ≡ any-code l
 untrue Levels.Any code h = refl
+untrue Levels.TrueOnly code h = h
 untrue (Levels.Range low high) code h = simp tests (λ w. simp tests at h)
 
 -- 12: "a window with low above high, or high above 254", and "a low of 0"

@@ -29,9 +29,9 @@ with-term ts t = cond (ltb (ts .count) most-named) (record { places = set (ts .p
 unfoldable pub terms-of : List ℕ → Terms
 terms-of l = record { places = take most-named l ++ replicate (most-named - length l) 0; count = length l }
 
--- "an empty ask to begin from: no marks, no window, start 1, the largest allowance"
+-- "an empty ask to begin from: no marks, no window, start 1, the largest allowance"; document 02: "true only (the empty ask's setting)"
 abbrev pub empty : Query
-empty = record { required = none; forbidden = none; levels = Levels.Any; start = 1; budget = largest-number }
+empty = record { required = none; forbidden = none; levels = Levels.TrueOnly; start = 1; budget = largest-number }
 
 -- a query with another part
 abbrev pub with-required : Query → ℕ → Query
@@ -49,12 +49,15 @@ with-start q n = record { required = q .required; forbidden = q .forbidden; leve
 abbrev pub with-budget : Query → ℕ → Query
 with-budget q n = record { required = q .required; forbidden = q .forbidden; levels = q .levels; start = q .start; budget = n }
 
--- whether a query wants a level code: a range (document 01's window) holds true levels alone
-abbrev pub in-range : Levels → ℕ → Bool
-in-range Levels.Any code = true
-in-range (Levels.Range low high) code = leb low code && leb code high && true-level code
+-- The level rule: whether a query wants a level code. Document 02: "The record holds any, true only (the empty ask's setting) or a window." A range
+-- (document 01's window) holds true levels alone.
+abbrev pub wants : Levels → ℕ → Bool
+wants Levels.Any code = true
+wants Levels.TrueOnly code = true-level code
+wants (Levels.Range low high) code = leb low code && leb code high && true-level code
 
 -- whether a query wants the codes that are no true level too
 abbrev pub any-code : Levels → Bool
 any-code Levels.Any = true
+any-code Levels.TrueOnly = false
 any-code (Levels.Range low high) = false

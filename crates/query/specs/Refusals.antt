@@ -27,9 +27,11 @@ no-terms ts = any (length ts) (no-term ts)
 abbrev pub term-rows : List ℕ → List ℕ → ℕ
 term-rows required forbidden = pick (no-terms required || no-terms forbidden) 11 0
 
--- 12: "a window with low above high, or high above 254"; document 02: "12 now also covers a low of 0." An end of a range is a true level.
+-- 12: "a window with low above high, or high above 254"; document 02: "12 now also covers a low of 0." An end of a range is a true level. It speaks
+-- of a range alone.
 abbrev pub no-range : Levels → Bool
 no-range Levels.Any = false
+no-range Levels.TrueOnly = false
 no-range (Levels.Range low high) = ltb high low || not (true-level low) || not (true-level high)
 
 abbrev pub level-rows : Levels → ℕ

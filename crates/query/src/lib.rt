@@ -4,19 +4,20 @@ ghost use Rattle.query.specs.Query.{empty, with-required, with-forbidden
 use terms::none;
 use terms::with_term;
 
-mod range;
+mod codes;
 mod refusals;
 mod terms;
 
-pub use range::in_range;
+pub use codes::wants;
 pub use refusals::common_refusal;
 pub use refusals::refusal;
 pub use terms::Terms;
 pub use terms::terms_of;
 
-// Which level codes a query wants (document 01: its window). A code of 0 or 255 is no true level and lies in no range.
+// Which level codes a query wants: any, true levels only, or a range of them (document 01: its window). A code of 0 or 255 is no true level.
 pub enum Levels {
     Any,
+    TrueOnly,
     Range(u32, u32),
 }
 
@@ -41,7 +42,7 @@ impl Query {
 
     pub const LARGEST_BUDGET: u32 = 4294967295;
 
-    // No terms, any level, start 1, the largest budget.
+    // No terms, true levels only, start 1, the largest budget.
     pub fn empty() -> Query
         ensures { λ r. ⌜ r ≡ empty ⌝ }
     {
@@ -50,7 +51,7 @@ impl Query {
         Query {
             required,
             forbidden,
-            levels: Levels::Any,
+            levels: Levels::TrueOnly,
             start: 1,
             budget: Query::LARGEST_BUDGET,
         }

@@ -6,7 +6,7 @@ ghost use Rattle.query.specs.declared.Levels.{Levels};
 use crate::Levels;
 use crate::Query;
 use crate::Terms;
-use crate::range::true_level;
+use crate::codes::true_level;
 use integers::least;
 use integers::otherwise;
 
@@ -44,11 +44,13 @@ fn wrong_bounds(low: u32, high: u32) -> bool
     !true_level(high)
 }
 
+// Whether a query has a range, and it is none of true levels.
 fn no_range(levels: Levels) -> bool
     ensures { λ r. ⌜ r ≡ no-range levels ⌝ }
 {
     match levels {
         Levels::Any => false,
+        Levels::TrueOnly => false,
         Levels::Range(low, high) => wrong_bounds(low, high),
     }
 }

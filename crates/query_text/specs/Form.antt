@@ -18,14 +18,17 @@ forbidden-line = 4
 abbrev pub level-line : ℕ
 level-line = 5
 
+abbrev pub any-level-line : ℕ
+any-level-line = 6
+
 abbrev pub start-line : ℕ
-start-line = 6
+start-line = 7
 
 abbrev pub budget-line : ℕ
-budget-line = 7
+budget-line = 8
 
 abbrev pub close-line : ℕ
-close-line = 8
+close-line = 9
 
 -- how each is written, with `#` for a number
 abbrev pub rows : List Row
@@ -34,6 +37,7 @@ rows =
     ∷ row required-line "(need #)"
     ∷ row forbidden-line "(not #)"
     ∷ row level-line "(level # #)"
+    ∷ row any-level-line "(level any)"
     ∷ row start-line "(from #)"
     ∷ row budget-line "(moves #)"
     ∷ row close-line ")"

@@ -12,7 +12,7 @@ use Rattle.text.specs.declared.Form.{Form}
 use Rattle.query.specs.Query.{most-named, empty, with-required, with-forbidden, with-levels, with-start, with-budget}
 use Rattle.query.specs.declared.Query.{Query}
 use Rattle.query.specs.declared.Levels.{Levels}
-use Rattle.query_text.specs.Form.{open-line, required-line, forbidden-line, level-line, start-line, budget-line, close-line, rows, repeats}
+use Rattle.query_text.specs.Form.{open-line, required-line, forbidden-line, level-line, any-level-line, start-line, budget-line, close-line, rows, repeats}
 use Rattle.query_text.specs.declared.Draft.{Draft}
 use Rattle.query_text.specs.declared.QueryRead.{QueryRead}
 
@@ -25,14 +25,15 @@ first-stage = open-line
 abbrev pub closed-stage : ℕ
 closed-stage = close-line + 1
 
+-- a line of a kind that repeats may follow itself. No level line follows either of the two: "at most one each of level, from and moves".
 abbrev pub next-stage : ℕ → ℕ
-next-stage kind = cond (repeats kind) kind (kind + 1)
+next-stage kind = cond (repeats kind) kind (cond (eqb kind level-line) start-line (kind + 1))
 
 -- 31: a line of a kind below the stage, or a first line that does not open the query
 abbrev pub out-of-order : ℕ → ℕ → Bool
 out-of-order stage kind = ltb kind stage || (eqb stage first-stage && ltb open-line kind)
 
--- nothing is read yet: "What is absent takes the empty ask's setting."
+-- nothing is read yet: "What is absent takes the empty ask's setting." So without a level line true levels only are wanted.
 abbrev pub begun : Draft
 begun = record { stage = first-stage; query = empty }
 
@@ -59,16 +60,17 @@ line-refusal d f =
     (pick (ninth (d .query) (f .kind)) 35
     0))))
 
--- the query with one line more
+-- the query with one line more; document 02: "`(level any)` asks for what the missing line meant before"
 abbrev pub with-form : Query → Form → Query
 with-form q f =
     let k = f .kind in
     cond (eqb k required-line) (with-required q (f .number))
     (cond (eqb k forbidden-line) (with-forbidden q (f .number))
     (cond (eqb k level-line) (with-levels q (Levels.Range (f .before) (f .number)))
+    (cond (eqb k any-level-line) (with-levels q Levels.Any)
     (cond (eqb k start-line) (with-start q (f .number))
     (cond (eqb k budget-line) (with-budget q (f .number))
-    q))))
+    q)))))
 
 abbrev pub with-line : Draft → Form → Draft
 with-line d f = record { stage = next-stage (f .kind); query = with-form (d .query) f }

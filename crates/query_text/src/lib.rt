@@ -28,11 +28,13 @@ const FORBIDDEN: u32 = 4;
 
 const LEVEL: u32 = 5;
 
-const START: u32 = 6;
+const ANY_LEVEL: u32 = 6;
 
-const BUDGET: u32 = 7;
+const START: u32 = 7;
 
-const CLOSE: u32 = 8;
+const BUDGET: u32 = 8;
+
+const CLOSE: u32 = 9;
 
 // The stage before the first line, and once the query is closed.
 const FIRST_STAGE: u64 = OPEN as u64;
@@ -127,6 +129,7 @@ fn line_at(text: &[u8], at: usize) -> Found
     let form = text::row(text, at, REQUIRED, b"(need #)", LARGEST_NUMBER, form);
     let form = text::row(text, at, FORBIDDEN, b"(not #)", LARGEST_NUMBER, form);
     let form = text::row(text, at, LEVEL, b"(level # #)", LARGEST_NUMBER, form);
+    let form = text::row(text, at, ANY_LEVEL, b"(level any)", LARGEST_NUMBER, form);
     let form = text::row(text, at, START, b"(from #)", LARGEST_NUMBER, form);
     let form = text::row(text, at, BUDGET, b"(moves #)", LARGEST_NUMBER, form);
     let form = text::row(text, at, CLOSE, b")", LARGEST_NUMBER, form);
@@ -167,12 +170,15 @@ fn repeats(kind: u32) -> bool
     kind == REQUIRED || kind == FORBIDDEN
 }
 
-// The lowest kind that the line after a line may be of.
+// The lowest kind that the line after a line may be of. One of the two level lines follows neither.
 fn next_stage(kind: u32) -> u64
     ensures { λ r. ⌜ r ≡ next-stage kind ⌝ }
 {
     if repeats(kind) {
         return kind as u64;
+    }
+    if kind == LEVEL {
+        return START as u64;
     }
     kind as u64 + 1
 }
@@ -231,6 +237,9 @@ fn with_form(query: Query, form: Form) -> Query
     if kind == LEVEL {
         let low = form.before as u32;
         return query.with_levels(Levels::Range(low, number));
+    }
+    if kind == ANY_LEVEL {
+        return query.with_levels(Levels::Any);
     }
     if kind == START {
         return query.with_start(number);

@@ -24,7 +24,7 @@ use Rattle.steps.specs.Matching.{matches}
 use Rattle.steps.specs.Steps as runs
 use Rattle.steps.specs.Steps.{End, placed, run}
 use Rattle.steps.proofs.Promises.{lists-exactly, keeps-budget}
-use Rattle.query.specs.Query.{used, in-range, any-code}
+use Rattle.query.specs.Query.{used, wants, any-code}
 use Rattle.query.specs.Refusals.{query-refusal}
 use Rattle.query.specs.declared.Query.{Query}
 use Rattle.query.proofs.Accepted.{AcceptedSearch, accepted-search}
@@ -81,7 +81,7 @@ module _ {list : ℕ → List ℕ} {ts us : List ℕ} {slices : List (RefT (List
 -- so its end is the end of the steps
 pub run-ended : (P : Plant) (list : ℕ → List ℕ) (q : Query) {cs : List runs.Cursor} {out out′ : List ℕ} {r : Listing}
     → cs ≡ placed list runs.required (used (q .required)) ++ placed list runs.forbidden (used (q .forbidden))
-    → RunGives (run (P .last) (P .root) (size P + 1) (λ d. in-range (q .levels) (entry (P .level) d)) (size P + 1) (q .budget) (q .start) cs) out out′ r
+    → RunGives (run (P .last) (P .root) (size P + 1) (λ d. wants (q .levels) (entry (P .level) d)) (size P + 1) (q .budget) (q .start) cs) out out′ r
     → RunGives (ended P list q (q .budget)) out out′ r
 unfolding ended
 run-ended P list q e x = rw e at x

@@ -8,7 +8,7 @@ use Rattle.plant.specs.Plant.{Plant, size}
 use Rattle.two_indexes.specs.Indexes.{Indexes, list-of, indexes-refusal}
 use Rattle.steps.specs.Matching.{Criteria}
 use Rattle.steps.specs.Steps.{End, steps}
-use Rattle.query.specs.Query.{used, in-range}
+use Rattle.query.specs.Query.{used, wants}
 use Rattle.query.specs.Refusals.{query-refusal}
 use Rattle.query.specs.declared.Query.{Query}
 use Rattle.search.specs.declared.Answer.{Answer}
@@ -23,7 +23,7 @@ abbrev pub criteria : Plant → Query → Criteria
 criteria P q = record {
   required = used (q .required);
   forbidden = used (q .forbidden);
-  ok = λ d. in-range (q .levels) (entry (P .level) d);
+  ok = λ d. wants (q .levels) (entry (P .level) d);
   start = q .start;
   end = size P + 1;
 }

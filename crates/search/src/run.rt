@@ -8,12 +8,12 @@ ghost use Rattle.laws.specs.Limits.{most-devices, «largest-number»};
 ghost use Rattle.laws.specs.Tables.{entry};
 ghost use Rattle.laws.specs.inner.Entries.{IsEntry};
 ghost use Rattle.steps.specs.Steps.{run};
-ghost use Rattle.query.specs.Query.{in-range};
+ghost use Rattle.query.specs.Query.{wants};
 ghost use Rattle.search.specs.inner.Cursors.{«most-passed», Tables, Valid, Turns, Lists, Writes, RunGives, begin};
 use crate::cursor::bring;
 use integers::least_u32;
 use query::Levels;
-use query::in_range;
+use query::wants;
 
 // How a round at a position p ends: every cursor accepts each position from p to `to`; or the position is set to the one after `to`; or the
 // next move would exceed the budget. The moves made so far, and how many postings they passed over.
@@ -83,10 +83,10 @@ fn pass(
 // Whether the level code of device d is one that a query wants.
 fn wanted(level: &[u8], levels: Levels, d: u32) -> bool
     requires { ⌜ IsEntry (now level) d ⌝ }
-    ensures { λ r. ⌜ r ≡ in-range levels (entry (now (level .entry)) d) ⌝ }
+    ensures { λ r. ⌜ r ≡ wants levels (entry (now (level .entry)) d) ⌝ }
 {
     let i = (d - 1) as usize;
-    in_range(levels, level[i] as u32)
+    wants(levels, level[i] as u32)
 }
 
 // Writes device d after the first `count` entries, where it is listed. Else no entry changes.
@@ -119,7 +119,7 @@ fn list(
     count: u32,
 ) -> u32
     requires { ⌜ (count < from) × (from ≤ to) × (to ≤ length (now level)) × (length (now level) ≤ length (now out)) × (length (now level) ≤ most-devices) ⌝ }
-    ensures { λ r. ⌜ Writes accepted (λ d. in-range levels (entry (now (level .entry)) d)) from to (now (out .entry)) (now (out .exit)) count r ⌝ }
+    ensures { λ r. ⌜ Writes accepted (λ d. wants levels (entry (now (level .entry)) d)) from to (now (out .entry)) (now (out .exit)) count r ⌝ }
 {
     if accepted {
         let mut d = from;
@@ -173,7 +173,7 @@ pub fn run(
         × (1 ≤ start) × (1 ≤ end) × (end ≤ length (now last) + 1) ⌝ }
     requires { ⌜ Lists (now last) (map now (now lists)) ⌝ }
     ensures { λ r. ⌜ RunGives
-        (run (now (last .entry)) (now (root .entry)) end (λ d. in-range levels (entry (now (level .entry)) d)) end budget start
+        (run (now (last .entry)) (now (root .entry)) end (λ d. wants levels (entry (now (level .entry)) d)) end budget start
         (begin required (map now (now (lists .entry)))))
         (now (out .entry)) (now (out .exit)) r ⌝ }
 {

@@ -22,5 +22,8 @@ with-form-spec =
     (λ c. rw (c .before .if4 .taken) (search needs))
     (λ c κs. search needs)
     (λ c. rw (c .before .if5 .taken) (search needs))
+    (λ c κs. search needs)
+    (λ c. rw (c .before .if6 .taken) (search needs))
     (λ c. let b = c .before .before in
-    rw (ne-eqb _ _ (b .before .before .if1 .left), ne-eqb _ _ (b .before .if2 .left), ne-eqb _ _ (b .if3 .left), ne-eqb _ _ (c .before .if4 .left), ne-eqb _ _ (c .if5 .left))))
+    let a = b .before in
+    rw (ne-eqb _ _ (a .before .before .if1 .left), ne-eqb _ _ (a .before .if2 .left), ne-eqb _ _ (a .if3 .left), ne-eqb _ _ (b .if4 .left), ne-eqb _ _ (c .before .if5 .left), ne-eqb _ _ (c .if6 .left))))

@@ -9,6 +9,8 @@ no-range-spec =
     (tie.spec
     (λ c. search needs)
     (λ c. search needs)
+    (λ c. search needs)
     (λ c κs. search needs)
+    (λ c. search needs)
     (λ c. search needs)
     (λ c. rw (c .before .before .levels .given .1) (c .wrong-bounds .ensures)))

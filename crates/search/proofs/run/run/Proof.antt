@@ -5,14 +5,14 @@ use denote.Ref.{now}
 use native.Mathlib.Omega.{arith}
 use borrow.Author.Needs.{needs}
 use Rattle.laws.specs.Tables.{entry}
-use Rattle.query.specs.Query.{in-range}
+use Rattle.query.specs.Query.{wants}
 use Rattle.search.proofs.RunByIndex.{Listed, listed-start, listed-over, passed-few, counts-fit, more-fits, listed-stops, next-fits, listed-more, fewer}
 use Rattle.search.proofs.run.run.Statement.{statement}
 use Rattle.search.proofs.run.run.Tie as tie
 
 abbrev Inv-loop : tie.InvT-loop
 Inv-loop last root level lists required levels start end budget out₀ positions₀ position₀ passed₀ moves₀ count₀ out positions position passed moves count =
-    Listed last root (λ d. in-range levels (entry level d)) (map now lists) required end budget start out₀ positions out position passed moves count
+    Listed last root (λ d. wants levels (entry level d)) (map now lists) required end budget start out₀ positions out position passed moves count
 
 abbrev μ-loop : tie.MeasureT-loop
 μ-loop last root level lists required levels start end budget out₀ positions₀ position₀ passed₀ moves₀ count₀ out positions position passed moves count = end - position
