@@ -1,9 +1,9 @@
 -- What an accepted query is, and its answer from the end of its run.
 use Prim.Native.Nat.{ℕ, zero, suc, _+_, _<_}
 use native.Mathlib.Omega.{arith}
-use mathlib.Core.Bool.{false}
+use mathlib.Core.Bool.{Bool, false}
 use mathlib.Core.List.{List, [], _∷_, _++_, map}
-use mathlib.Core.Path.{_≡_, refl, sym, _∙_, subst}
+use mathlib.Core.Path.{_≡_, refl, sym, ap, _∙_, subst}
 use denote.Ref.{RefT, now}
 use lib.ListN.{length, getD, take, length-map}
 use lib.Seq.{take-at}
@@ -22,10 +22,12 @@ use Rattle.two_indexes.specs.Indexes.{Indexes, indexes, alone, any-second, list
 use Rattle.two_indexes.proofs.Accepted.{accepted, accepted-list, of-both, alone-list, alone-refusal}
 use Rattle.steps.specs.Matching.{matches}
 use Rattle.steps.specs.Steps as runs
-use Rattle.steps.specs.Steps.{End, placed, run}
+use Rattle.steps.specs.Steps.{End, placed, cursors, run}
 use Rattle.steps.proofs.Promises.{lists-exactly, keeps-budget}
-use Rattle.query.specs.Query.{used, wants, any-code}
+use Rattle.steps.proofs.LevelRule.{ruled, run-ruled}
+use Rattle.query.specs.Query.{used, with-levels, wants, any-code}
 use Rattle.query.specs.Refusals.{query-refusal}
+use Rattle.query.specs.declared.Levels.{Levels}
 use Rattle.query.specs.declared.Query.{Query}
 use Rattle.query.proofs.Accepted.{AcceptedSearch, accepted-search}
 use Rattle.query.proofs.TrueLevels.{untrue}
@@ -107,10 +109,22 @@ written-refused : (n : ℕ) (e : End) (out : List ℕ) → (n ≡ 0 → ⊥) →
 written-refused zero e out h = absurd (h refl)
 written-refused (suc n) e out h = refl
 
--- a device without a true level, at 0 or 255, matches no query that has a level range
+-- a device without a true level, at 0 or 255, matches no query but one for any level code
 true-levels : (P : Plant) (list : ℕ → List ℕ) (q : Query) → any-code (q .levels) ≡ false → (d : ℕ) → true-level (entry (P .level) d) ≡ false
     → matches (P .last) list (criteria P q) d ≡ false
 true-levels P list q h d e = let z = untrue (q .levels) (entry (P .level) d) e ∙ h in simp and-no (λ w. z)
+
+-- the level rule takes no part in where the steps go: it picks from what they list where any code is wanted
+module _ (P : Plant) (list : ℕ → List ℕ) (q : Query) where
+  ended-ruled : (l : Levels) → ended P list (with-levels q l) (q .budget)
+      ≡ ruled (criteria P (with-levels q l) .ok) (ended P list (with-levels q Levels.Any) (q .budget))
+  unfolding ended
+  ended-ruled l = run-ruled (P .last) (P .root) (size P + 1) (criteria P (with-levels q l) .ok) (size P + 1) (q .budget) (q .start) (cursors list (criteria P q))
+
+  -- by the position, or a count
+  as-any : (f : End → ℕ) → ((ok : ℕ → Bool) (e : End) → f (ruled ok e) ≡ f e) → (l m : Levels)
+      → f (ended P list (with-levels q l) (q .budget)) ≡ f (ended P list (with-levels q m) (q .budget))
+  as-any f h l m = ap f (ended-ruled l) ∙ h _ _ ∙ sym (ap f (ended-ruled m) ∙ h _ _)
 
 -- the theorem: all that is promised of an accepted query holds of how its steps end
 pub promised : (P : Plant) (S : Indexes) (q : Query) (room : ℕ) → search-refusal P S q room ≡ 0 → let e = ended P (list-of S) q (q .budget) in
@@ -124,6 +138,12 @@ promised P S q room h =
       true-levels = true-levels P (list-of S) q;
       short = ended P (list-of S) q (q .budget) .short;
       budget = keeps-budget P (a .forest) (list-of S) (λ t. sound-rising (a .list t)) (criteria P q) (k .from-first) (k .to-end) (omega arith) (q .budget);
+      unchanged = λ l. (
+        as-any P (list-of S) q (λ e. e .position) (λ ok e. refl) (q .levels) l,
+        as-any P (list-of S) q (λ e. e .counts .passed) (λ ok e. refl) (q .levels) l,
+        as-any P (list-of S) q (λ e. e .counts .moves) (λ ok e. refl) (q .levels) l,
+      );
+      kept = ap (λ e. e .listed) (ended-ruled P (list-of S) q (q .levels));
     }
 
 -- the theorem on an empty second index

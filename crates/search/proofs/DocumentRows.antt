@@ -1,4 +1,4 @@
--- Document 01's queries over plant P: its starred rows a to j, the last as document 02 has it, by computation.
+-- Document 01's queries over plant P: its starred rows a to j as document 02 has them, by computation.
 use Prim.Native.Nat.{ℕ, _-_}
 use mathlib.Core.Path.{_≡_, refl}
 use mathlib.Core.List.{List, [], _∷_, _++_}
@@ -56,8 +56,9 @@ pub record Refused (P : Plant) (S : Indexes) (q : Query) (number : ℕ) : Type 0
   pub answers : answer P S q 6 ≡ record { refusal = number; count = 0; position = 0; passed = 0; moves = 0 }
   pub lists : answer-list P S q (replicate 6 0) ≡ replicate 6 0
 
--- rows a to j, in that order. Then document 02: "0 is treated as 255 is", row j with device 3 at 0; "12 now also covers a low of 0", row j as
--- document 01 had it.
+-- rows a to j, in that order, those without a window for any level code: they "keep their listings". Then document 02: "0 is treated as 255 is",
+-- row j with device 3 at 0; "12 now also covers a low of 0", row j as document 01 had it; "without it row c lists 2 only", row f too, each with
+-- its place and moves; and the empty query, with device 3 at 255 and at 0.
 pub rows :
     Row P empty-second (query (7 ∷ []) [] Levels.Any most) (2 ∷ 3 ∷ 5 ∷ []) 7 0 2
     × Row P empty-second (query (9 ∷ []) [] Levels.Any most) (4 ∷ 5 ∷ 6 ∷ []) 7 0 0
@@ -71,6 +72,10 @@ pub rows :
     × Row P empty-second (query [] [] (Levels.Range 1 254) most) (1 ∷ 2 ∷ 4 ∷ 5 ∷ 6 ∷ []) 7 0 0
     × Row (P-with 0) empty-second (query [] [] (Levels.Range 1 254) most) (1 ∷ 2 ∷ 4 ∷ 5 ∷ 6 ∷ []) 7 0 0
     × Refused P (alone I) (query [] [] (Levels.Range 0 254) most) 12
+    × Row P empty-second (query (7 ∷ []) (9 ∷ []) Levels.TrueOnly most) (2 ∷ []) 7 0 1
+    × Row P empty-second (query (7 ∷ []) (9 ∷ []) Levels.TrueOnly 0) (2 ∷ []) 4 0 0
+    × Row P empty-second empty (1 ∷ 2 ∷ 4 ∷ 5 ∷ 6 ∷ []) 7 0 0
+    × Row (P-with 0) empty-second empty (1 ∷ 2 ∷ 4 ∷ 5 ∷ 6 ∷ []) 7 0 0
 unfolding plants.plant-refusal one.tables-refusal one.index-rows indexes-refusal common-refusal query-refusal search-refusal terms-of ended run round bring until any lowest matching every member unshared count-up
 rows = (
   record { answers = refl; lists = refl; exact = refl },
@@ -85,6 +90,10 @@ rows = (
   record { answers = refl; lists = refl; exact = refl },
   record { answers = refl; lists = refl; exact = refl },
   record { answers = refl; lists = refl },
+  record { answers = refl; lists = refl; exact = refl },
+  record { answers = refl; lists = refl; exact = refl },
+  record { answers = refl; lists = refl; exact = refl },
+  record { answers = refl; lists = refl; exact = refl },
 )
 
 -- two indexes: terms of either, both and neither; a list of the second that is empty; then an example of each number, 55 before 15, and 15 before

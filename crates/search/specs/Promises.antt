@@ -11,10 +11,11 @@ use Rattle.plant.specs.Levels.{true-level}
 use Rattle.index.specs.Index as one
 use Rattle.index.specs.Index.{index}
 use Rattle.two_indexes.specs.Indexes.{Indexes, any-second, list-of}
-use Rattle.steps.specs.Matching.{matches}
+use Rattle.steps.specs.Matching.{matches, passing}
 use Rattle.steps.specs.Promises.{ListsExactly, KeepsBudget}
-use Rattle.query.specs.Query.{any-code}
+use Rattle.query.specs.Query.{with-levels, any-code}
 use Rattle.query.specs.Refusals.{query-refusal}
+use Rattle.query.specs.declared.Levels.{Levels}
 use Rattle.query.specs.declared.Query.{Query}
 use Rattle.search.specs.Answer.{search-refusal, criteria, ended, answer, answer-list}
 use Rattle.search.specs.declared.Answer.{Answer}
@@ -23,11 +24,17 @@ use Rattle.search.specs.declared.Answer.{Answer}
 -- budget. Whether it is short is not told, nor where its cursors stand: as the steps leave them.
 pub record Promised (P : Plant) (list : ℕ → List ℕ) (q : Query) (listed : List ℕ) (position passed moves : ℕ) : Type 0 where
   pub lists : ListsExactly (P .last) list (criteria P q) listed position
-  -- "0 is treated as 255 is": a device without a true level matches no query that has a level range
+  -- "0 is treated as 255 is": a device without a true level matches no query but one for any level code
   pub true-levels : any-code (q .levels) ≡ false → (d : ℕ) → true-level (entry (P .level) d) ≡ false → matches (P .last) list (criteria P q) d ≡ false
   pub short : Bool
   pub budget : KeepsBudget (P .last) (P .root) list (criteria P q) (q .budget)
       (record { listed = listed; position = position; counts = record { moves = moves; passed = passed }; short = short; cursors = ended P list q (q .budget) .cursors })
+
+  -- "Moves don't change": whatever level codes are wanted instead, position, passed and moves are the same
+  pub unchanged : (l : Levels) → let e = ended P list (with-levels q l) (q .budget) in
+      (position ≡ e .position) × (passed ≡ e .counts .passed) × (moves ≡ e .counts .moves)
+  -- and what is listed is, of the listing for any code, the devices whose codes are wanted
+  pub kept : listed ≡ passing (criteria P q .ok) (ended P list (with-levels q Levels.Any) (q .budget) .listed)
 
 -- all is as it was with the first index alone
 pub record AsBefore (P : Plant) (S : Indexes) (q : Query) (room : ℕ) : Type 0 where

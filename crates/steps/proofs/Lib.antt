@@ -9,3 +9,4 @@ pub mod Promises
 pub mod Example
 pub mod ByIndex
 pub mod Stretch
+pub mod LevelRule

@@ -36,3 +36,8 @@ put false d l = l
 unfoldable pub matching : (ℕ → Bool) → ℕ → ℕ → List ℕ
 matching ok zero d = []
 matching ok (suc n) d = put (ok d) d (matching ok n (d + 1))
+
+-- of some devices, those that pass a test
+unfoldable pub passing : (ℕ → Bool) → List ℕ → List ℕ
+passing ok [] = []
+passing ok (d ∷ ds) = put (ok d) d (passing ok ds)
