@@ -38,8 +38,9 @@ uint32_t plant_search_check(
  * terms from 32,768 up, over the same devices; lists of length 0 where there is none. 15: a term that is in the wrong index.
  * required, forbidden: the terms that a device must carry, and those that it must not; more than 8 of either is refusal 10. A
  * term that its index does not have is on no device.
- * ranged: 0 for any level code, and low and high are not looked at; else only codes low to high. Levels are 1 to 254, and codes
- * 0 and 255 lie in no range: a low of 0, a high above 254 or a low above high is refusal 12.
+ * levels: 0 for any level code; 1 for true levels only, which are 1 to 254; another number for codes low to high only. low and
+ * high are looked at for a range alone, and codes 0 and 255 lie in none: a low of 0, a high above 254 or a low above high is
+ * refusal 12. Position, passed and moves are the same whatever codes are wanted.
  * start: the device to begin at. budget: the most moves that the cursors may make.
  * answer: room for N devices or more. The matching devices are written to its front; other entries keep what they hold, and
  * after a refusal all do.
@@ -60,7 +61,7 @@ uint32_t plant_search_search(
     const uint32_t *second_postings, size_t second_postings_length,
     const uint32_t *required, size_t required_length,
     const uint32_t *forbidden, size_t forbidden_length,
-    uint32_t ranged, uint32_t low, uint32_t high,
+    uint32_t levels, uint32_t low, uint32_t high,
     uint32_t start, uint32_t budget,
     uint16_t *answer, size_t answer_length,
     uint32_t numbers[4]);
@@ -141,9 +142,9 @@ uint32_t plant_search_tighten(
 /* Reads ask text: the refusal, 30 to 35, or 0.
  *
  * required, forbidden: the terms, then zeros.
- * numbers: the line of the refusal or 0; how many required terms and how many forbidden; 1 if there is a level range, else 0;
- * low and high of the range, or zeros; start; budget. After a refusal the query is empty: no terms, no range, start 1, the
- * largest budget. */
+ * numbers: the line of the refusal or 0; how many required terms and how many forbidden; 0 if any level code is wanted, 1 for
+ * true levels only, 2 for a range; low and high of the range, or zeros; start; budget. After a refusal the query is empty: no
+ * terms, true levels only, start 1, the largest budget. */
 uint32_t plant_search_read_query(
     const uint8_t *text, size_t text_length,
     uint32_t required[8],

@@ -9,10 +9,11 @@ use Rattle.query_text.specs.declared.QueryRead.{QueryRead}
 use Rattle.plant_text.specs.PlantText.{outcome-values}
 use Rattle.plant_text.specs.declared.Outcome.{Outcome}
 
--- 0: any level code; another number: a range
+-- which level codes are wanted: 0, any; 1, true levels only; another number, a range
 abbrev pub levels-of : ℕ → ℕ → ℕ → Levels
 levels-of zero low high = Levels.Any
-levels-of (suc n) low high = Levels.Range low high
+levels-of (suc zero) low high = Levels.TrueOnly
+levels-of (suc (suc n)) low high = Levels.Range low high
 
 -- the query of two lists of terms, level codes, a start and a budget
 abbrev pub query-of : List ℕ → List ℕ → Levels → ℕ → ℕ → Query
@@ -23,10 +24,11 @@ query-of required forbidden levels start budget =
 abbrev pub numbers-of : Answer → List ℕ
 numbers-of a = a .count ∷ a .position ∷ a .passed ∷ a .moves ∷ []
 
--- level codes as three numbers: 1 for a range, its low and its high; or zeros
+-- and handed back as three numbers: 0, 1 or 2, then the low and the high of a range, or zeros
 abbrev pub level-numbers : Levels → List ℕ
 level-numbers Levels.Any = 0 ∷ 0 ∷ 0 ∷ []
-level-numbers (Levels.Range low high) = 1 ∷ low ∷ high ∷ []
+level-numbers Levels.TrueOnly = 1 ∷ 0 ∷ 0 ∷ []
+level-numbers (Levels.Range low high) = 2 ∷ low ∷ high ∷ []
 
 -- the numbers of a query that was read: line, required terms, forbidden terms, level codes, start, budget
 abbrev pub query-numbers : QueryRead → List ℕ

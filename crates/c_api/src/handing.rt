@@ -15,12 +15,15 @@ use query_text::QueryRead;
 use repair::Repaired;
 use tighten::Tightened;
 
-// Any level code, or a range of them.
-fn levels_of(ranged: u32, low: u32, high: u32) -> Levels
-    ensures { λ r. ⌜ r ≡ levels-of ranged low high ⌝ }
+// Which level codes are wanted: any, true levels only, or a range.
+fn levels_of(levels: u32, low: u32, high: u32) -> Levels
+    ensures { λ r. ⌜ r ≡ levels-of levels low high ⌝ }
 {
-    if ranged == 0 {
+    if levels == 0 {
         return Levels::Any;
+    }
+    if levels == 1 {
+        return Levels::TrueOnly;
     }
     Levels::Range(low, high)
 }
@@ -29,22 +32,22 @@ fn levels_of(ranged: u32, low: u32, high: u32) -> Levels
 pub fn query_of(
     required: &[u32],
     forbidden: &[u32],
-    ranged: u32,
+    levels: u32,
     low: u32,
     high: u32,
     start: u32,
     budget: u32,
 ) -> Query
     ensures { λ r. ⌜ r ≡ query-of
-        (now (required .entry)) (now (forbidden .entry)) (levels-of ranged low high) start budget ⌝ }
+        (now (required .entry)) (now (forbidden .entry)) (levels-of levels low high) start budget ⌝ }
 {
     let first = terms_of(required);
     let second = terms_of(forbidden);
-    let levels = levels_of(ranged, low, high);
+    let wanted = levels_of(levels, low, high);
     Query {
         required: first,
         forbidden: second,
-        levels,
+        levels: wanted,
         start,
         budget,
     }
@@ -56,7 +59,8 @@ fn level_numbers(levels: Levels) -> [usize; 3]
 {
     match levels {
         Levels::Any => [0, 0, 0],
-        Levels::Range(low, high) => [1, u32_to_usize(low), u32_to_usize(high)],
+        Levels::TrueOnly => [1, 0, 0],
+        Levels::Range(low, high) => [2, u32_to_usize(low), u32_to_usize(high)],
     }
 }
 

@@ -38,9 +38,9 @@ pub extern "C" fn plant_search_check(
     index::check(last, root, level, terms, starts, postings)
 }
 
-// Searches two indexes for the devices that carry all required terms and no forbidden one. Any level code is wanted where `ranged` is 0, else
-// those of a range. The listing goes to the front of `out`; `numbers` is set to the number of devices listed, the position, the postings passed
-// over and the moves.
+// Searches two indexes for the devices that carry all required terms and no forbidden one. Any level code is wanted where `levels` is 0, true
+// levels only where it is 1, else those of a range. The listing goes to the front of `out`; `numbers` is set to the number of devices listed, the
+// position, the postings passed over and the moves.
 #[no_mangle]
 pub extern "C" fn plant_search_search<'a>(
     last: &[u16],
@@ -54,7 +54,7 @@ pub extern "C" fn plant_search_search<'a>(
     second_postings: &'a [u32],
     required: &[u32],
     forbidden: &[u32],
-    ranged: u32,
+    levels: u32,
     low: u32,
     high: u32,
     start: u32,
@@ -67,10 +67,10 @@ pub extern "C" fn plant_search_search<'a>(
         (indexes
         (index (now (terms .entry)) (now (starts .entry)) (now (postings .entry)))
         (index (now («second_terms» .entry)) (now («second_starts» .entry)) (now («second_postings» .entry))))
-        (query-of (now (required .entry)) (now (forbidden .entry)) (levels-of ranged low high) start budget)
+        (query-of (now (required .entry)) (now (forbidden .entry)) (levels-of levels low high) start budget)
         (now (out .entry)) (now (out .exit)) (now (numbers .exit)) r ⌝ }
 {
-    let query = query_of(required, forbidden, ranged, low, high, start, budget);
+    let query = query_of(required, forbidden, levels, low, high, start, budget);
     let told = search::search(
         last,
         root,

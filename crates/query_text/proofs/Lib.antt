@@ -1,3 +1,4 @@
 -- Laws of query text.
 mod LineRows
 mod Turns
+pub mod LevelLines

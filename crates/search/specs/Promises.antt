@@ -29,7 +29,6 @@ pub record Promised (P : Plant) (list : ℕ → List ℕ) (q : Query) (listed : 
   pub short : Bool
   pub budget : KeepsBudget (P .last) (P .root) list (criteria P q) (q .budget)
       (record { listed = listed; position = position; counts = record { moves = moves; passed = passed }; short = short; cursors = ended P list q (q .budget) .cursors })
-
   -- "Moves don't change": whatever level codes are wanted instead, position, passed and moves are the same
   pub unchanged : (l : Levels) → let e = ended P list (with-levels q l) (q .budget) in
       (position ≡ e .position) × (passed ≡ e .counts .passed) × (moves ≡ e .counts .moves)

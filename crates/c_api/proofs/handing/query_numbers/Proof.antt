@@ -11,6 +11,7 @@ use Rattle.c_api.proofs.handing.query_numbers.Tie as tie
 
 one-by-one : (l : Levels) (rest : List ℕ) → getD (level-numbers l) 0 0 ∷ getD (level-numbers l) 1 0 ∷ getD (level-numbers l) 2 0 ∷ rest ≡ level-numbers l ++ rest
 one-by-one Levels.Any rest = refl
+one-by-one Levels.TrueOnly rest = refl
 one-by-one (Levels.Range low high) rest = refl
 
 returns : tie.Need-returns

@@ -13,5 +13,5 @@ wants-spec =
     (λ c. search needs)
     (λ c κs. search needs)
     (λ c. search needs)
-    (λ c. rw (c .before .enum-told2 .given .1) (c .true-level .ensures))
+    (λ c. rw (c .before .enum-told2 .given .1) (search needs))
     (λ c. rw (c .before .before .levels .given .1) (c .in-range .ensures)))

@@ -1,4 +1,5 @@
 -- `query::codes::within` meets its contract, by the tests made.
+use Rattle.laws.proofs.Tests.{flags}
 use Rattle.query.proofs.codes.within.Statement.{statement}
 use Rattle.query.proofs.codes.within.Tie as tie
 use borrow.Author.Tests.{le-leb, lt-leb}
@@ -7,5 +8,5 @@ pub within-spec : {M : Type 1} → statement M
 within-spec =
     tie.close
     (tie.spec
-    (λ c. rw (le-leb _ _ (c .if1 .taken)))
-    (λ c. rw (lt-leb _ _ (c .if1 .left))))
+    (λ c. let a = c .before .args in rw (le-leb (a .low) (a .code) (omega flags)))
+    (λ c. let a = c .before .args in rw (lt-leb (a .low) (a .code) (omega flags))))
