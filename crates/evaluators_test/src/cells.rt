@@ -107,15 +107,13 @@ pub fn stands_in(starts: &[u32], k: usize, postings: &[u32], i: usize) -> bool {
     list_start(starts, k, postings) <= i && i < list_end(starts, k, postings)
 }
 
-pub fn in_range(levels: Levels, code: u32) -> bool {
+// Whether a query wants a level code. 0 and 255 are no true levels.
+pub fn wants(levels: Levels, code: u32) -> bool {
+    let is_true = code != 0 && code != 255;
     match levels {
         Levels::Any => true,
-        Levels::Range(low, high) => {
-            if code == 0 || code == 255 {
-                return false;
-            }
-            low <= code && code <= high
-        }
+        Levels::TrueOnly => is_true,
+        Levels::Range(low, high) => is_true && low <= code && code <= high,
     }
 }
 

@@ -10,12 +10,15 @@ use crate::refusals::refusal;
 use crate::slow::listing;
 use crate::spoil::Lengths;
 use crate::steps::walk;
+use query::Levels;
 use query::Query;
 use search::Answer;
 use search::search;
 
-// What stands for a difference among the refusals.
+// What stands among the refusals for a difference, and for a run that the choice of levels changes.
 pub const DIFFERS: u32 = 60;
+
+pub const MOVED_BY_LEVELS: u32 = 61;
 
 // Whether the answer list, which held 9999 everywhere, keeps its entries from `from` on.
 fn is_kept(answer: &[u16], from: usize) -> bool {
@@ -134,7 +137,30 @@ fn found(
     )
 }
 
-// The refusal that the search gives, or DIFFERS where anything differs.
+// Whether two answers differ in the position, the postings passed over or the moves.
+fn ends_otherwise(a: Answer, b: Answer) -> bool {
+    a.position != b.position || a.passed != b.passed || a.moves != b.moves
+}
+
+// Whether a query that is answered by a ends otherwise where it wants any level, or true levels only. Its listing is written over.
+fn is_moved_by_levels(
+    last: &[u16],
+    root: &[u16],
+    level: &[u8],
+    first: Index,
+    second: Index,
+    query: Query,
+    answer: &mut [u16],
+    a: Answer,
+) -> bool {
+    let any_level = query.with_levels(Levels::Any);
+    let true_levels = query.with_levels(Levels::TrueOnly);
+    let b = found(last, root, level, first, second, any_level, answer);
+    let c = found(last, root, level, first, second, true_levels, answer);
+    ends_otherwise(a, b) || ends_otherwise(a, c)
+}
+
+// The refusal that the search gives, DIFFERS where anything differs, or MOVED_BY_LEVELS.
 fn judge(
     last: &[u16],
     root: &[u16],
@@ -155,10 +181,13 @@ fn judge(
         }
         return DIFFERS;
     }
-    if is_right_over(last, root, level, first, second, query, answer, a) {
-        return 0;
+    if !is_right_over(last, root, level, first, second, query, answer, a) {
+        return DIFFERS;
     }
-    DIFFERS
+    if is_moved_by_levels(last, root, level, first, second, query, answer, a) {
+        return MOVED_BY_LEVELS;
+    }
+    0
 }
 
 // Judges the parts of the device tables that are lent.
@@ -188,7 +217,7 @@ fn judge_parts(
     )
 }
 
-// The refusal that the search gives for the first entries of these tables, or DIFFERS where anything differs.
+// The refusal that the search gives for the first entries of these tables, DIFFERS where anything differs, or MOVED_BY_LEVELS.
 pub fn compare(
     last: &[u16; 16],
     root: &[u16; 16],

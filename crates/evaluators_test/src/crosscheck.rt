@@ -1,6 +1,8 @@
 // The search beside the evaluators over small plants, pairs of indexes and queries from a fixed seed: sound ones, and ones damaged in each way
-// that the rows of the refusals name, or in two. Prints how often each answer arose, and in how many cases anything differed.
+// that the rows of the refusals name, or in two. Prints how often each answer arose, in how many cases anything differed, and in how many of
+// those answered another choice of levels gave another position, passed over other postings or made other moves.
 use crate::compare::DIFFERS;
+use crate::compare::MOVED_BY_LEVELS;
 use crate::compare::compare;
 use crate::indexes::Index;
 use crate::make;
@@ -31,7 +33,7 @@ fn row_at(i: u32) -> u32 {
     0
 }
 
-// The counts of cases: how often each refusal arose, 0 for an answer, and at DIFFERS how many cases differed.
+// The counts of cases: how often each refusal arose, 0 for an answer, and at DIFFERS and MOVED_BY_LEVELS how often those did.
 fn count(tally: &mut [u32; 64], k: u32) {
     if k < 64 {
         let i = k as usize;
@@ -129,4 +131,6 @@ pub fn print_cases() {
     print_line(b"cases, answered: ", 8000, tally[0]);
     print_tally(&tally);
     print_line(b"differences, of: ", tally[DIFFERS as usize], 8000);
+    let moved = tally[MOVED_BY_LEVELS as usize];
+    print_line(b"moved by levels, of: ", moved, tally[0]);
 }

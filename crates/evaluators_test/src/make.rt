@@ -141,14 +141,16 @@ fn posting_at(seed: &mut u64, d: u32, n: u32, covered: u32) -> u32 {
     plus(plus(d, d), kind - 2)
 }
 
+// A range in half of the cases, any level and true levels only in a quarter each.
 fn levels(seed: &mut u64) -> Levels {
-    let k = draw(seed, 5);
+    let k = draw(seed, 8);
     match k {
         0 => Levels::Range(1, 254),
         1 => Levels::Range(1, 90),
         2 => Levels::Range(90, 118),
         3 => Levels::Range(118, 254),
-        _ => Levels::Any,
+        4 | 5 => Levels::Any,
+        _ => Levels::TrueOnly,
     }
 }
 
@@ -180,7 +182,7 @@ fn places(seed: &mut u64, low: u32, high: u32) -> [u32; 8] {
 pub fn query(seed: &mut u64, n: u32, low: u32, high: u32) -> Query {
     let first = places(seed, low, high);
     let second = places(seed, low, high);
-    let range = levels(seed);
+    let wanted = levels(seed);
     let required = Terms {
         places: first,
         count: small(draw(seed, 3)),
@@ -192,7 +194,7 @@ pub fn query(seed: &mut u64, n: u32, low: u32, high: u32) -> Query {
     Query {
         required: required,
         forbidden: forbidden,
-        levels: range,
+        levels: wanted,
         start: plus(1, draw(seed, plus(n, 1))),
         budget: budget(seed),
     }

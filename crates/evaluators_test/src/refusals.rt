@@ -105,6 +105,7 @@ fn bad_use(query: Query, k: usize) -> bool {
 fn bad_range(levels: Levels) -> bool {
     match levels {
         Levels::Any => false,
+        Levels::TrueOnly => false,
         Levels::Range(low, high) => high < low || 254 < high || low == 0,
     }
 }

@@ -1,12 +1,12 @@
 // The slow evaluator: writes every list out unshared, and tests every device.
 use crate::cells::at8;
 use crate::cells::at32;
-use crate::cells::in_range;
 use crate::cells::is_used;
 use crate::cells::list_number;
 use crate::cells::reach;
 use crate::cells::stands_in;
 use crate::cells::term;
+use crate::cells::wants;
 use crate::numbers::wide;
 use query::Query;
 
@@ -91,7 +91,7 @@ fn matches(lists: &[u8; 256], query: Query, level: &[u8], d: usize) -> bool {
         return false;
     }
     let levels = query.levels;
-    if in_range(levels, at8(level, d - 1)) {
+    if wants(levels, at8(level, d - 1)) {
         return has_terms(lists, query, d);
     }
     false

@@ -143,8 +143,8 @@ pub fn query(seed: &mut u64, kind: u32, n: u32, q: Query) -> Query {
     }
     required.count = odd_count(kind, 0, way, required.count);
     forbidden.count = odd_count(kind, 1, way, forbidden.count);
-    let range = q.levels;
-    let levels = odd_levels(kind, draw(seed, 3), range);
+    let wanted = q.levels;
+    let levels = odd_levels(kind, draw(seed, 3), wanted);
     Query {
         required: required,
         forbidden: forbidden,

@@ -2,13 +2,13 @@
 use crate::cells::at8;
 use crate::cells::at32;
 use crate::cells::entry;
-use crate::cells::in_range;
 use crate::cells::is_used;
 use crate::cells::list_end;
 use crate::cells::list_number;
 use crate::cells::list_start;
 use crate::cells::reach;
 use crate::cells::term;
+use crate::cells::wants;
 use crate::numbers::minus;
 use crate::numbers::next;
 use crate::numbers::number;
@@ -175,14 +175,14 @@ fn turn(
     going(plus(p, 1), 0, s.passed, s.moves)
 }
 
-// Lists p when its code is in the query's range.
+// Lists p when the query wants its code.
 fn list(level: &[u8], query: Query, p: u32, listed: &mut [u8; 16]) {
     let levels = query.levels;
     if p == 0 {
         return;
     }
     if p < 16 {
-        if in_range(levels, at8(level, wide(p - 1))) {
+        if wants(levels, at8(level, wide(p - 1))) {
             listed[wide(p)] = 1;
         }
     }

@@ -39,6 +39,9 @@ fn levels(l: Levels) {
         Levels::Any => {
             print(b", any level");
         }
+        Levels::TrueOnly => {
+            print(b", true levels");
+        }
         Levels::Range(low, high) => {
             print(b", level");
             number(low);
