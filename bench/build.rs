@@ -1,5 +1,5 @@
 //! Finds the archive that `rt staticlib c_api` makes, and the two peers (packages libroaring-dev and libsqlite3-dev). Where
-//! PLANT_SEARCH_BEFORE names the archive of landing 11, its search is linked too, to be timed beside today's.
+//! PLANT_SEARCH_BEFORE names the archive of landing 12, its search and today's are linked apart too, to be timed side by side.
 use std::path::Path;
 use std::process::Command;
 
@@ -18,19 +18,21 @@ fn main() {
     println!("cargo:rustc-check-cfg=cfg(before)");
     println!("cargo:rerun-if-env-changed=PLANT_SEARCH_BEFORE");
     if let Ok(before) = std::env::var("PLANT_SEARCH_BEFORE") {
-        link_before(&before);
+        link_apart(&before, "before");
+        link_apart(&archive.display().to_string(), "now");
+        println!("cargo:rustc-cfg=before");
     }
 }
 
-/// Links the search of an older archive under another name, with all that it needs out of sight.
-fn link_before(archive: &str) {
+/// Links the search of an archive under another name, with all that it needs out of sight. Each function begins at a multiple of
+/// 64 bytes: the same code of two archives takes the same time only where it lies alike.
+fn link_apart(archive: &str, name: &str) {
     println!("cargo:rerun-if-changed={archive}");
-    let object = format!("{}/before.o", std::env::var("OUT_DIR").unwrap());
+    let object = format!("{}/{name}.o", std::env::var("OUT_DIR").unwrap());
     run("ld", &["-r", "-u", "plant_search_search", "-o", &object, archive]);
-    run("objcopy", &["--keep-global-symbol=plant_search_search", &object]);
-    run("objcopy", &["--redefine-sym", "plant_search_search=plant_search_search_before", &object]);
+    run("objcopy", &["--keep-global-symbol=plant_search_search", "--set-section-alignment", ".text.*=64", &object]);
+    run("objcopy", &["--redefine-sym", &format!("plant_search_search=plant_search_search_{name}"), &object]);
     println!("cargo:rustc-link-arg={object}");
-    println!("cargo:rustc-cfg=before");
 }
 
 fn run(program: &str, words: &[&str]) {

@@ -1,14 +1,16 @@
 //! Times the proved search beside plain Rust and other ways to the same listing, and writes docs/BENCHMARK.md.
 //!
 //! `bench` times; `bench quick` shows rough figures and writes nothing, `bench read` those of reading and writing alone,
-//! `bench repair` those of repairing, `bench tighten` those of tightening and `bench second` those of a second index;
-//! `bench count common`, `bench count any`, `bench count small`, `bench count read`, `bench count write`, `bench count repair` and
+//! `bench repair` those of repairing, `bench tighten` those of tightening, `bench second` those of a second index and
+//! `bench levels` those of the level rule; `bench count common`, `bench count any`, `bench count small` (each of these also with
+//! `any-level`, `true-levels` or `level-range` after it), `bench count read`, `bench count write`, `bench count repair` and
 //! `bench count tighten` make each call a fixed number of times, for callgrind to count instructions.
 #[cfg(before)]
 mod before;
 #[allow(dead_code)]
 #[path = "../../tests/outside/src/ffi.rs"]
 mod ffi;
+mod levels;
 mod lines;
 #[allow(dead_code)]
 #[path = "../../tests/outside/src/paper.rs"]
@@ -37,12 +39,13 @@ mod unshared;
 mod ways;
 mod writing;
 
-use paper::{Answer, Query, Tables};
+use levels::Levelled;
+use paper::{Answer, Levels, Query, Tables};
 use plants::{Kind, Size, KINDS};
 use random::Random;
 use reading::{Pair, Reading};
 use repairing::Repairing;
-use second::{Second, BEFORE};
+use second::Second;
 use std::hint::black_box;
 use tightening::{Saved, Tightening};
 use time::{clock, seconds, Least, Rounds, Times};
@@ -64,6 +67,7 @@ pub struct Page {
     pub tightened: Vec<Tightening>,
     pub saved: [Saved; 2],
     pub second: [Second; 3],
+    pub levels: [Levelled; 3],
     pub growth: Vec<Growth>,
     pub skips: Vec<Skip>,
 }
@@ -206,21 +210,30 @@ fn skips() -> Vec<Skip> {
     rows
 }
 
-/// Over a plant of the mission's size.
-fn count_at_mission(common: bool) {
+/// Counts over what was asked for: common terms or any at the mission's size, or the plant P; and perhaps one level rule alone.
+fn count_of(words: &[&str]) {
+    let (terms, levels) = match *words {
+        [terms] => (terms, None),
+        [terms, "any-level"] => (terms, Some(Levels::Any)),
+        [terms, "true-levels"] => (terms, Some(Levels::TrueOnly)),
+        [terms, "level-range"] => (terms, Some(plants::RANGE)),
+        _ => usage(),
+    };
     let mut r = Random(7);
-    let tables = plants::plant(&mut r, MISSION);
-    count(r, tables, common);
+    let tables = if terms == "small" { plants::small() } else { plants::plant(&mut r, MISSION) };
+    count(r, tables, terms != "any", levels);
 }
 
-/// Forty queries of each kind, each call made once, for a count of instructions.
-fn count(mut r: Random, tables: Tables, common: bool) {
+/// Forty queries of each kind, each call made once, for a count of instructions; under one level rule alone, of each kind that
+/// says nothing of levels, and there the library before is called too.
+fn count(mut r: Random, tables: Tables, common: bool, levels: Option<Levels>) {
     let mut answer = vec![0; tables.size()];
-    for kind in KINDS {
+    for kind in KINDS.into_iter().filter(|kind| levels.is_none() || kind.3 == Levels::TrueOnly) {
         for q in plants::queries(&mut r, &tables, kind, common, 40) {
+            let q = Query { levels: levels.unwrap_or(q.levels), ..q };
             black_box(ffi::check(black_box(&tables)));
             black_box(proved_search(&tables, black_box(&q), &mut answer));
-            black_box(BEFORE.map(|search| search(&tables, black_box(&q), &mut answer)));
+            black_box(levels.and_then(levels::linked).map(|[before, _]| before(&tables, black_box(&q), &mut answer)));
             black_box(plain::check(black_box(&tables)));
             black_box(plain::check_in_two_passes(black_box(&tables)));
             black_box(plain::steps(&tables, black_box(&q), &mut answer));
@@ -256,21 +269,50 @@ fn saved() -> [Saved; 2] {
 
 /// A second index, over document 01's plant P and at both sizes.
 fn in_two(rounds: usize) -> [Second; 3] {
+    over_each(rounds, second::measure)
+}
+
+/// The level rule, over the same plants.
+fn levelled(rounds: usize) -> [Levelled; 3] {
+    over_each(rounds, levels::measure)
+}
+
+/// What is measured over document 01's plant P and at both sizes.
+fn over_each<T>(rounds: usize, measure: fn(&'static str, Tables, second::Effort) -> T) -> [T; 3] {
     let plant = |size: Size| plants::plant(&mut Random(7), size);
     [
-        second::measure("document 01's plant P", second::small(), second::Effort { queries: 10, rounds: 10 * rounds, calls: 20 }),
-        second::measure("the mission's size", plant(MISSION), second::Effort { queries: 20, rounds, calls: 1 }),
-        second::measure("the limits", plant(LIMITS), second::Effort { queries: 2, rounds: rounds / 4, calls: 1 }),
+        measure("document 01's plant P", plants::small(), second::Effort { queries: 10, rounds: 10 * rounds, calls: 20 }),
+        measure("the mission's size", plant(MISSION), second::Effort { queries: 20, rounds, calls: 1 }),
+        measure("the limits", plant(LIMITS), second::Effort { queries: 2, rounds: rounds / 4, calls: 1 }),
     ]
+}
+
+fn usage() -> ! {
+    let count = "count common|any|small [any-level|true-levels|level-range] | count read|write|repair|tighten";
+    panic!("usage: bench [quick | read | repair | tighten | second | levels | {count}]")
+}
+
+fn page(mission: Effort, limits: Effort, readings: usize) -> Page {
+    Page {
+        measured: [measure("the mission's size", MISSION, mission), measure("the limits", LIMITS, limits)],
+        reading: reading::measure(MISSION, readings),
+        written: written(readings),
+        repaired: repaired(readings),
+        tightened: tightened(readings),
+        saved: saved(),
+        second: in_two(readings),
+        levels: levelled(readings),
+        printing: reading::printing(),
+        growth: growth(),
+        skips: skips(),
+    }
 }
 
 fn main() {
     let words: Vec<String> = std::env::args().skip(1).collect();
     let words: Vec<&str> = words.iter().map(String::as_str).collect();
     let (mission, limits, readings) = match words[..] {
-        ["count", "common"] => return count_at_mission(true),
-        ["count", "any"] => return count_at_mission(false),
-        ["count", "small"] => return count(Random(7), second::small(), true),
+        ["count", "common" | "any" | "small", ..] => return count_of(&words[1..]),
         ["count", "read"] => return reading::count(MISSION),
         ["count", "write"] => return writing::count(MISSION),
         ["count", "repair"] => return repairing::count(MISSION),
@@ -278,6 +320,7 @@ fn main() {
         ["repair"] => return print!("{}", report::repairing(&repaired(60))),
         ["tighten"] => return print!("{}", report::tightening(&tightened(60), &saved())),
         ["second"] => return print!("{}", report::second(&in_two(200))),
+        ["levels"] => return print!("{}", report::levels(&levelled(200))),
         ["read"] => {
             let read = report::reading(MISSION, &reading::measure(MISSION, 60), reading::printing());
             return print!("{read}{}", report::writing(&written(60)));
@@ -289,20 +332,9 @@ fn main() {
             let limits = Effort { queries: 12, passes: 5, whole: 2, steps: 30 };
             (Effort { queries: 40, passes: 10, whole: 25, steps: 40 }, limits, 200)
         }
-        _ => panic!("usage: bench [quick | read | repair | tighten | second | count common|any|small|read|write|repair|tighten]"),
+        _ => usage(),
     };
-    let text = report::whole(&Page {
-        measured: [measure("the mission's size", MISSION, mission), measure("the limits", LIMITS, limits)],
-        reading: reading::measure(MISSION, readings),
-        written: written(readings),
-        repaired: repaired(readings),
-        tightened: tightened(readings),
-        saved: saved(),
-        second: in_two(readings),
-        printing: reading::printing(),
-        growth: growth(),
-        skips: skips(),
-    });
+    let text = report::whole(&page(mission, limits, readings));
     print!("{text}");
     if words.is_empty() {
         std::fs::write(concat!(env!("CARGO_MANIFEST_DIR"), "/../docs/BENCHMARK.md"), &text).unwrap();

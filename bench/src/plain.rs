@@ -1,5 +1,5 @@
 //! The same checks and cursor steps in plain Rust, as one would write them without proofs.
-use crate::paper::{Answer, Index, Query, Tables};
+use crate::paper::{Answer, Index, Levels, Query, Tables};
 
 /// The least term of the second index.
 pub const SECOND: u16 = 32_768;
@@ -319,7 +319,7 @@ fn refusal(t: &Tables, q: &Query, room: usize) -> u32 {
     if q.required.iter().chain(&q.forbidden).any(|&x| x == 0 || x > 65_535) {
         return 11;
     }
-    if q.levels.is_some_and(|(low, high)| high < low || low == 0 || high > 254) {
+    if matches!(q.levels, Levels::Range(low, high) if high < low || low == 0 || high > 254) {
         return 12;
     }
     if q.start == 0 || q.start as usize > t.last.len() + 1 {
@@ -376,6 +376,7 @@ pub fn steps_in_two(t: &Tables, second: &Index, q: &Query, answer: &mut [u16]) -
     let (mut required, mut forbidden) = (cursors(first, second, &q.required), cursors(first, second, &q.forbidden));
     let required = &mut required[..q.required.len()];
     let forbidden = &mut forbidden[..q.forbidden.len()];
+    let codes = codes(q.levels);
     let n = t.last.len();
     let (mut p, mut spent, mut count) = (q.start as usize, Spent { moves: 0, passed: 0 }, 0);
     'rounds: while p <= n {
@@ -396,20 +397,25 @@ pub fn steps_in_two(t: &Tables, second: &Index, q: &Query, answer: &mut [u16]) -
             }
             until = until.min(stretch.to);
         }
-        count = fill(&t.level, q.levels, p, until, answer, count);
+        count = fill(&t.level, codes, p, until, answer, count);
         p = until + 1;
     }
     Answer { refusal: 0, count: count as u32, position: p as u32, passed: spent.passed as u32, moves: spent.moves }
 }
 
+/// The lowest and the highest level code that an accepted query wants.
+pub fn codes(levels: Levels) -> (u8, u8) {
+    match levels {
+        Levels::Any => (0, 255),
+        Levels::TrueOnly => (1, 254),
+        Levels::Range(low, high) => (low as u8, high as u8),
+    }
+}
+
 /// Lists the positions from p to `until` whose level code is wanted, after the first `count` entries.
-fn fill(level: &[u8], levels: Option<(u32, u32)>, p: usize, until: usize, answer: &mut [u16], mut count: usize) -> usize {
+fn fill(level: &[u8], (low, high): (u8, u8), p: usize, until: usize, answer: &mut [u16], mut count: usize) -> usize {
     for d in p..until + 1 {
-        let wanted = match levels {
-            None => true,
-            Some((low, high)) => (low..=high).contains(&(level[d - 1] as u32)),
-        };
-        if wanted {
+        if (low..=high).contains(&level[d - 1]) {
             answer[count] = d as u16;
             count += 1;
         }

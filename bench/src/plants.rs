@@ -1,5 +1,5 @@
 //! Plants of exact sizes, and queries over them.
-use crate::paper::{device_of, Query, Tables};
+use crate::paper::{self, device_of, Levels, Query, Tables};
 use crate::plain::SECOND;
 use crate::random::Random;
 
@@ -18,9 +18,20 @@ fn forest(r: &mut Random, n: usize) -> Tables {
         open.push(index);
         t.last.push(n as u16);
         t.root.push(open[0] as u16 + 1);
-        t.level.push(if r.one_in(20) { 255 } else { r.between(60, 180) as u8 });
+        t.level.push(code(r));
     }
     t
+}
+
+/// A level code. One device in twenty has no register, which is 255; about as many have a modem that has not ranged, which is 0.
+fn code(r: &mut Random) -> u8 {
+    if r.one_in(20) {
+        return 255;
+    }
+    match r.between(54, 180) {
+        level @ 60.. => level as u8,
+        _ => 0,
+    }
 }
 
 /// Makes a list of about `length` postings, and not more.
@@ -132,20 +143,29 @@ fn plant_with(r: &mut Random, Size(n, terms, postings): Size, list: MakeList) ->
     t
 }
 
-/// A kind of query: its name, required terms, forbidden terms, whether there is a level range.
-pub type Kind = (&'static str, usize, usize, bool);
+/// Document 01's plant P, where the cost of a call that no table adds to shows most.
+pub fn small() -> Tables {
+    paper::read_plant(include_bytes!("../../sample/plant.txt"), paper::ROOM).unwrap()
+}
 
-pub const KINDS: [Kind; 5] = [
-    ("1 required", 1, 0, false),
-    ("2 required", 2, 0, false),
-    ("2 required, 1 forbidden", 2, 1, false),
-    ("1 required, a level range", 1, 0, true),
-    ("3 required, 2 forbidden, a level range", 3, 2, true),
+/// A kind of query: its name, required terms, forbidden terms, the levels that it wants.
+pub type Kind = (&'static str, usize, usize, Levels);
+
+pub const RANGE: Levels = Levels::Range(100, 140);
+
+/// Where a name says nothing of levels, nor does the query: it wants true levels only.
+pub const KINDS: [Kind; 6] = [
+    ("1 required", 1, 0, Levels::TrueOnly),
+    ("2 required", 2, 0, Levels::TrueOnly),
+    ("2 required, 1 forbidden", 2, 1, Levels::TrueOnly),
+    ("1 required, a level range", 1, 0, RANGE),
+    ("3 required, 2 forbidden, a level range", 3, 2, RANGE),
+    ("1 required, any level", 1, 0, Levels::Any),
 ];
 
 /// Queries of a kind. Common terms: each is as likely as its list is long; else all are equally likely.
 pub fn queries(r: &mut Random, t: &Tables, kind: Kind, common: bool, count: usize) -> Vec<Query> {
-    let (_, required, forbidden, ranged) = kind;
+    let (_, required, forbidden, levels) = kind;
     let term = |r: &mut Random| {
         let at = r.below(t.postings.len()) as u32;
         let k = if common { t.starts.partition_point(|&s| s <= at) - 1 } else { r.below(t.terms.len()) };
@@ -154,7 +174,7 @@ pub fn queries(r: &mut Random, t: &Tables, kind: Kind, common: bool, count: usiz
     let query = |r: &mut Random| Query {
         required: (0..required).map(|_| term(r)).collect(),
         forbidden: (0..forbidden).map(|_| term(r)).collect(),
-        levels: ranged.then_some((100, 140)),
+        levels,
         start: 1,
         budget: u32::MAX,
     };

@@ -8,16 +8,23 @@ const LEVEL: u32 = word(b"(lev");
 const START: u32 = word(b"(fro");
 const BUDGET: u32 = word(b"(mov");
 
-/// A line of a query: its rank among the lines, and its numbers; the second is 0 where there is one.
+/// What a query says of levels, as it is handed back.
+const ANY_LEVEL: usize = 0;
+const TRUE_LEVELS: usize = 1;
+const RANGE: usize = 2;
+
+/// A line of a query: its rank among the lines, what it says of levels, and its numbers, 0 where there are none.
 struct Line {
     rank: usize,
+    levels: usize,
     first: u64,
     second: u64,
 }
 
-/// No terms, no range, start 1, the largest budget.
+/// No terms, true levels only, start 1, the largest budget.
 fn empty() -> ReadQuery {
-    ReadQuery { refusal: 0, required: [0; 8], forbidden: [0; 8], numbers: [0, 0, 0, 0, 0, 0, 1, u32::MAX as usize] }
+    let numbers = [0, 0, 0, TRUE_LEVELS, 0, 0, 1, u32::MAX as usize];
+    ReadQuery { refusal: 0, required: [0; 8], forbidden: [0; 8], numbers }
 }
 
 #[inline(never)]
@@ -67,7 +74,12 @@ fn line(lines: &mut Lines) -> Option<Line> {
     if !lines.goes_on(4, rest) {
         return None;
     }
-    let (first, mut end) = lines.number(4 + rest.len())?;
+    let at = 4 + rest.len();
+    if rank == 2 && lines.goes_on(at, b"any)\n") {
+        lines.take(at + 5);
+        return Some(Line { rank, levels: ANY_LEVEL, first: 0, second: 0 });
+    }
+    let (first, mut end) = lines.number(at)?;
     let mut second = 0;
     if rank == 2 {
         if lines.byte(end) != b' ' {
@@ -79,7 +91,7 @@ fn line(lines: &mut Lines) -> Option<Line> {
         return None;
     }
     lines.take(end + 2);
-    Some(Line { rank, first, second })
+    Some(Line { rank, levels: RANGE, first, second })
 }
 
 /// Sets what a line says; false: all eight places of its terms are taken.
@@ -88,7 +100,7 @@ fn set(query: &mut ReadQuery, line: &Line) -> bool {
         0 => put(&mut query.required, &mut query.numbers[1], line.first),
         1 => put(&mut query.forbidden, &mut query.numbers[2], line.first),
         2 => {
-            query.numbers[3..6].copy_from_slice(&[1, line.first as usize, line.second as usize]);
+            query.numbers[3..6].copy_from_slice(&[line.levels, line.first as usize, line.second as usize]);
             true
         }
         rank => {

@@ -95,7 +95,7 @@ fn spoilt(r: &mut Random, text: &[u8]) -> Vec<u8> {
     let from = text[..at].iter().rposition(|&b| b == b'\n').map_or(0, |k| k + 1);
     let to = at + 1 + text[at..].iter().position(|&b| b == b'\n').unwrap();
     match r.below(6) {
-        0 => copy[at] = r.of(b"()\n 0123456789adekmnoprw"),
+        0 => copy[at] = r.of(b"()\n 0123456789adeklmnoprvwy"),
         1 => copy.insert(at, r.of(b"0123456789")),
         2 => drop(copy.drain(from..to)),
         3 => drop(copy.splice(from..from, text[from..to].to_vec())),
@@ -127,6 +127,31 @@ fn queries_agree(r: &mut Random, text: &[u8]) {
     for _ in 0..100 {
         let spoilt = spoilt(r, text);
         assert_eq!(query_reader::read_query(&spoilt), ffi::read_query(&spoilt));
+    }
+}
+
+/// Level lines, the refusal of a query text with them, and what it then hands back of levels.
+const LEVEL_LINES: [(&str, u32, usize); 12] = [
+    ("", 0, 1),
+    ("(level any)\n", 0, 0),
+    ("(level 100 140)\n", 0, 2),
+    ("(level 0 255)\n", 0, 2),
+    ("(level any)\n(level any)\n", 31, 1),
+    ("(level any)\n(level 100 140)\n", 31, 1),
+    ("(level 100 140)\n(level any)\n", 31, 1),
+    ("(level any)\n(not 9)\n", 31, 1),
+    ("(level any 9)\n", 31, 1),
+    ("(level any )\n", 31, 1),
+    ("(level an)\n", 31, 1),
+    ("(level all)\n", 31, 1),
+];
+
+fn level_lines_agree() {
+    for (lines, refusal, levels) in LEVEL_LINES {
+        let text = format!("(ask\n(need 7)\n{lines}(from 2)\n)\n");
+        let read = query_reader::read_query(text.as_bytes());
+        assert_eq!((read.refusal, read.numbers[3]), (refusal, levels));
+        assert_eq!(ffi::read_query(text.as_bytes()), read);
     }
 }
 
@@ -218,6 +243,7 @@ pub fn printing() -> Pair {
 
 /// The mean over several plants of this size; each query comes round so often.
 pub fn measure(size: Size, rounds: usize) -> Reading {
+    level_lines_agree();
     let mut jobs: Vec<Job> = (0..PLANTS).map(|k| job(7 + k, size)).collect();
     let (mut t, mut out) = (room(), [0; 16384]);
     let queries = jobs[0].queries.len();

@@ -1,4 +1,5 @@
 //! The page that a run writes.
+use crate::levels::{Levelled, Rule};
 use crate::plants::Size;
 use crate::reading::{Pair, Reading};
 use crate::repairing::Repairing;
@@ -13,7 +14,7 @@ use std::fmt::Write;
 const MOST: f64 = 1.1;
 /// The most that a check may take, in times of the plain one in two passes.
 const MOST_OF_TWO_PASSES: f64 = 0.75;
-/// The most that a call with an empty second index may take, in times of the call before there was one.
+/// The most that a call for any level or for a range may take, in times of that of the library before.
 const MOST_OF_BEFORE: f64 = 1.02;
 
 /// A number with commas.
@@ -301,7 +302,7 @@ fn tightening_goals(tightened: &[Tightening]) -> String {
     out
 }
 
-/// What an empty second index costs, and what the same notes in two indexes do.
+/// What the same notes in two indexes cost.
 pub fn second(rows: &[Second]) -> String {
     let mut out = String::from("\n## A second index\n\n");
     out += "The call whole, over the notes in one index and in two: every fourth term was put into the second with its list, ";
@@ -309,39 +310,85 @@ pub fn second(rows: &[Second]) -> String {
     let in_second = ["", "terms in the second", "postings in the second", "moves"];
     let times = ["one index, plain µs", "proved µs", "two, plain µs", "proved µs", "two, proved / plain", "proved, two / one"];
     out += &head(&[&in_second[..], &times[..]].concat());
-    for Second { name, moved: [terms, postings], moves, empty, two, .. } in rows {
+    for Second { name, moved: [terms, postings], moves, one, two } in rows {
         let numbers = [*terms, *postings, *moves as usize].map(commas).join(" | ");
-        let times = [empty.plain, empty.proved, two.plain, two.proved].map(nano).join(" | ");
-        let ratios = format!("**{:.2}** | {:.2}", two.proved / two.plain, two.proved / empty.proved);
+        let times = [one.plain, one.proved, two.plain, two.proved].map(nano).join(" | ");
+        let ratios = format!("**{:.2}** | {:.2}", two.proved / two.plain, two.proved / one.proved);
         writeln!(out, "| {name} | {numbers} | {times} | {ratios} |").unwrap();
     }
-    if rows.iter().any(|row| row.before.is_some()) {
-        out += "\nThe same calls with an empty second index, and those of the library before there was one:\n";
-        out += &head(&["", "before µs", "empty second index µs", "empty / before"]);
-    }
-    for (name, before, empty) in beside_before(rows) {
-        writeln!(out, "| {name} | {} | {} | **{:.3}** |", nano(before), nano(empty), empty / before).unwrap();
-    }
     out
-}
-
-/// The rows that have a time of the library before: name, that time, and the time with an empty second index.
-fn beside_before(rows: &[Second]) -> impl Iterator<Item = (&'static str, f64, f64)> + '_ {
-    rows.iter().filter_map(|row| Some((row.name, row.before?, row.empty.proved)))
 }
 
 /// The goals are for the two sizes, and not for the small plant.
 fn second_goals(rows: &[Second]) -> String {
     let mut out = String::from("\n### Goals for a second index\n");
-    out += &head(&["a call", "ratio", "at most", "goal"]);
+    out += &head(&["a call over two indexes, proved / plain", "ratio", "at most", "goal"]);
     for Second { name, two: Pair { plain, proved }, .. } in rows {
         let ratio = proved / plain;
-        writeln!(out, "| {name}, two indexes, proved / plain | {ratio:.2} | {MOST:.2} | {} |", met(ratio, MOST)).unwrap();
+        writeln!(out, "| {name} | {ratio:.2} | {MOST:.2} | {} |", met(ratio, MOST)).unwrap();
     }
-    for (name, before, empty) in beside_before(rows) {
-        let ratio = empty / before;
-        let goal = format!("{ratio:.3} | {MOST_OF_BEFORE:.2} | {}", met(ratio, MOST_OF_BEFORE));
-        writeln!(out, "| {name}, an empty second index / before | {goal} |").unwrap();
+    out
+}
+
+/// What the level rule lists and costs.
+pub fn levels(rows: &[Levelled]) -> String {
+    let mut out = String::from("\n## The level rule\n\n");
+    out += "The same queries at any level, at true levels only, which is what no level line means, and at levels 100 to 140. ";
+    out += "The moves, those of all queries together, are the same, and so are the position and what the moves pass over.\n";
+    out += &head(&["devices listed", "moves", "any level", "true levels only", "levels 100 to 140"]);
+    for Levelled { name, moves, any, true_only, range } in rows {
+        let numbers = [*moves, any.listed, true_only.listed, range.listed].map(|n| commas(n as usize)).join(" | ");
+        writeln!(out, "| {name} | {numbers} |").unwrap();
+    }
+    out += "\nWhat leaving out devices without a true level costs:\n";
+    let times = ["any level, plain µs", "proved µs", "true levels only, plain µs", "proved µs"];
+    out += &head(&[&[""], &times[..], &["plain, true / any", "proved, true / any"]].concat());
+    // the steps over the small plant are too short for the clock
+    for row in &rows[1..] {
+        out += &cost(row, "the call", |rule| rule.call);
+        out += &cost(row, "the steps", |rule| rule.steps);
+    }
+    out + &beside_before(rows)
+}
+
+fn cost(row: &Levelled, what: &str, of: fn(&Rule) -> Pair) -> String {
+    let [any, only] = [&row.any, &row.true_only].map(of);
+    let times = [any.plain, any.proved, only.plain, only.proved].map(nano).join(" | ");
+    let ratios = [only.plain / any.plain, only.proved / any.proved].map(|ratio| format!("**{ratio:.2}**")).join(" | ");
+    format!("| {}, {what} | {times} | {ratios} |\n", row.name)
+}
+
+/// The calls that the library before has too, beside its own.
+fn beside_before(rows: &[Levelled]) -> String {
+    let calls = calls_beside(rows);
+    if calls.is_empty() {
+        return String::new();
+    }
+    let mut out =
+        String::from("\nThe calls for any level and for a range, and those of the library before, both linked alike:\n");
+    out += &head(&["", "before µs", "now µs", "now / before"]);
+    for (name, [before, now]) in calls {
+        writeln!(out, "| {name} | {} | {} | **{:.3}** |", nano(before), nano(now), now / before).unwrap();
+    }
+    out
+}
+
+/// The calls that have a time of the library before: their names, that time, and today's beside it.
+fn calls_beside(rows: &[Levelled]) -> Vec<(String, [f64; 2])> {
+    let rules = rows.iter().flat_map(|row| [(row.name, "any level", &row.any), (row.name, "levels 100 to 140", &row.range)]);
+    rules.filter_map(|(name, levels, rule)| Some((format!("{name}, {levels}"), rule.beside?))).collect()
+}
+
+fn levels_goals(rows: &[Levelled]) -> String {
+    let calls = calls_beside(rows);
+    if calls.is_empty() {
+        return String::new();
+    }
+    let mut out = String::from("\n### Goals for the level rule\n");
+    out += &head(&["a call, now / before", "ratio", "at most", "goal"]);
+    for (name, [before, now]) in calls {
+        let ratio = now / before;
+        writeln!(out, "| {name} | {ratio:.3} | {MOST_OF_BEFORE:.2} | {} |", met(ratio, MOST_OF_BEFORE)).unwrap();
     }
     out
 }
@@ -378,6 +425,7 @@ pub fn whole(page: &Page) -> String {
     out += &repairing(&page.repaired);
     out += &tightening(&page.tightened, &page.saved);
     out += &second(&page.second);
+    out += &levels(&page.levels);
     out += &tables_grow(&page.growth);
     out += &moves_skip(&page.skips);
     out += "\n## Sharing: the figures of document 000\n\n";
@@ -387,7 +435,7 @@ pub fn whole(page: &Page) -> String {
     out += "\n";
     let mut goals = all(goals) + &reading_goal(&page.reading) + &writing_goals(&page.written);
     goals += &(repairing_goals(&page.repaired) + &tightening_goals(&page.tightened) + &second_goals(&page.second[1..]));
-    goals += &growing(&page.growth, &page.skips);
+    goals += &(levels_goals(&page.levels) + &growing(&page.growth, &page.skips));
     out += &include_str!("../after.md").replace("{goals}", goals.trim());
     out
 }

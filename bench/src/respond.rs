@@ -1,6 +1,6 @@
 //! The whole job in plain Rust: both texts in, the printed answer out.
 use crate::ffi::ReadQuery;
-use crate::paper::{Answer, Query, Tables};
+use crate::paper::{Answer, Levels, Query, Tables};
 use crate::plant_reader::read_plant;
 use crate::query_reader::read_query;
 
@@ -64,11 +64,15 @@ pub fn respond(plant: &[u8], query: &[u8], bytes: &mut [u8; 16384], search: Sear
 }
 
 fn query_of(asked: &ReadQuery) -> Query {
-    let [_, required, forbidden, ranged, low, high, start, budget] = asked.numbers;
+    let [_, required, forbidden, levels, low, high, start, budget] = asked.numbers;
     Query {
         required: asked.required[..required].to_vec(),
         forbidden: asked.forbidden[..forbidden].to_vec(),
-        levels: (ranged == 1).then_some((low as u32, high as u32)),
+        levels: match levels {
+            0 => Levels::Any,
+            1 => Levels::TrueOnly,
+            _ => Levels::Range(low as u32, high as u32),
+        },
         start: start as u32,
         budget: budget as u32,
     }

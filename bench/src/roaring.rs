@@ -1,5 +1,5 @@
 //! CRoaring: a bitmap for each unshared list, ready before the calls or built in them.
-use crate::paper::{device_of, Query, Tables};
+use crate::paper::{device_of, Levels, Query, Tables};
 use crate::plain;
 use crate::unshared::Unshared;
 use std::ptr::null_mut;
@@ -23,12 +23,17 @@ extern "C" {
     fn roaring_bitmap_free(b: *mut Bitmap);
 }
 
+/// From so many devices on, those without a true level are taken out by a join and not one by one: it is faster.
+const MANY: usize = 1_000;
+
 /// Bitmaps that were made of all lists before the calls.
 pub struct Ready {
     /// the bitmap of each term, by its number
     lists: Vec<*mut Bitmap>,
     /// how many devices each holds
     sizes: Vec<usize>,
+    /// the devices with a true level
+    levelled: *mut Bitmap,
     level: Vec<u8>,
     /// where a listing is unpacked
     room: Vec<u32>,
@@ -36,17 +41,10 @@ pub struct Ready {
 
 impl Ready {
     pub fn new(unshared: &Unshared, level: &[u8]) -> Ready {
-        let bitmap = |list: &Vec<u16>| {
-            let wide: Vec<u32> = list.iter().map(|&d| d as u32).collect();
-            unsafe {
-                let b = roaring_bitmap_of_ptr(wide.len(), wide.as_ptr());
-                roaring_bitmap_run_optimize(b);
-                b
-            }
-        };
-        let lists = unshared.lists.iter().map(bitmap).collect();
+        let lists = unshared.lists.iter().map(|list| ready(list.iter().map(|&d| d as u32))).collect();
         let sizes = unshared.lists.iter().map(Vec::len).collect();
-        Ready { lists, sizes, level: level.to_vec(), room: vec![0; level.len()] }
+        let levelled = ready((1..).zip(level).filter(|(_, code)| (1..=254).contains(*code)).map(|(d, _)| d));
+        Ready { lists, sizes, levelled, level: level.to_vec(), room: vec![0; level.len()] }
     }
 
     /// The listing, in numbers of 32 bits as CRoaring unpacks them.
@@ -58,11 +56,23 @@ impl Ready {
         }
         let made = self.join(terms, &q.forbidden);
         let result = if made.is_null() { self.lists[terms[0] as usize] } else { made };
-        let count = unpack(result, q, &self.level, &mut self.room);
+        let count = self.list(result, q.levels);
         if !made.is_null() {
             free(&[made]);
         }
         &self.room[..count]
+    }
+
+    /// Unpacks the devices of a wanted level; how many they are.
+    fn list(&mut self, result: *const Bitmap, levels: Levels) -> usize {
+        let found = size(result);
+        if levels != Levels::TrueOnly || found < MANY {
+            return unpack(result, found, levels, &self.level, &mut self.room);
+        }
+        let levelled = unsafe { roaring_bitmap_and(result, self.levelled) };
+        let count = unpack(levelled, size(levelled), Levels::Any, &self.level, &mut self.room);
+        free(&[levelled]);
+        count
     }
 
     /// A new bitmap of the devices with all required terms and no forbidden one; null for one required term alone, whose own
@@ -85,6 +95,17 @@ impl Ready {
 impl Drop for Ready {
     fn drop(&mut self) {
         free(&self.lists);
+        free(&[self.levelled]);
+    }
+}
+
+/// A bitmap of devices, with runs where they are shorter.
+fn ready(devices: impl Iterator<Item = u32>) -> *mut Bitmap {
+    let devices: Vec<u32> = devices.collect();
+    unsafe {
+        let b = roaring_bitmap_of_ptr(devices.len(), devices.as_ptr());
+        roaring_bitmap_run_optimize(b);
+        b
     }
 }
 
@@ -113,7 +134,7 @@ impl InTheCall {
         let forbidden = side(&q.forbidden, null_mut(), |term| build(plain::list_of(t, term)));
         let (required, forbidden) = (&required[..lists.len()], &forbidden[..q.forbidden.len()]);
         narrow(required[0], required[1..].iter().copied(), forbidden.iter().copied());
-        let count = unpack(required[0], q, &t.level, &mut self.room);
+        let count = unpack(required[0], size(required[0]), q.levels, &t.level, &mut self.room);
         free(required);
         free(forbidden);
         &self.room[..count]
@@ -177,24 +198,26 @@ fn narrow(result: *mut Bitmap, required: impl Iterator<Item = *mut Bitmap>, forb
     }
 }
 
-/// Unpacks the devices of a wanted level into the room; how many they are.
-fn unpack(result: *const Bitmap, q: &Query, level: &[u8], room: &mut [u32]) -> usize {
-    let found = unsafe {
-        roaring_bitmap_to_uint32_array(result, room.as_mut_ptr());
-        roaring_bitmap_get_cardinality(result) as usize
-    };
-    match q.levels {
-        None => found,
-        Some((low, high)) => within(level, low, high, &mut room[..found]),
+/// How many devices a bitmap holds.
+fn size(b: *const Bitmap) -> usize {
+    unsafe { roaring_bitmap_get_cardinality(b) as usize }
+}
+
+/// Unpacks the devices of a wanted level into the room, of so many that are found; how many they are.
+fn unpack(result: *const Bitmap, found: usize, levels: Levels, level: &[u8], room: &mut [u32]) -> usize {
+    unsafe { roaring_bitmap_to_uint32_array(result, room.as_mut_ptr()) };
+    match levels {
+        Levels::Any => found,
+        levels => within(level, plain::codes(levels), &mut room[..found]),
     }
 }
 
 /// Moves the devices with a level code from low to high to the front, with no branch; how many they are.
-fn within(level: &[u8], low: u32, high: u32, devices: &mut [u32]) -> usize {
+fn within(level: &[u8], (low, high): (u8, u8), devices: &mut [u32]) -> usize {
     let mut count = 0;
     for i in 0..devices.len() {
         let d = devices[i];
-        let code = level[d as usize - 1] as u32;
+        let code = level[d as usize - 1];
         devices[count] = d;
         count += (low <= code && code <= high) as usize;
     }

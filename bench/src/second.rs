@@ -1,19 +1,13 @@
-//! A second index: that both ways agree over two, and how long a call takes with an empty one and over the same notes in two.
+//! A second index: that both ways agree over two, and how long a call takes over the same notes in one and in two.
 use crate::ffi;
-use crate::paper::{self, Answer, Index, Query, Tables};
+use crate::paper::{Answer, Index, Query, Tables};
 use crate::plain::{self, SECOND};
 use crate::plants::{self, KINDS};
 use crate::random::Random;
 use crate::reading::Pair;
-use crate::respond::Search;
 use crate::time::{clock, Least};
-use crate::ways::proved_search;
+use crate::ways::{left_by, proved_search};
 use std::hint::black_box;
-
-#[cfg(before)]
-pub const BEFORE: Option<Search> = Some(crate::before::search);
-#[cfg(not(before))]
-pub const BEFORE: Option<Search> = None;
 
 /// What the calls over one plant gave: terms and postings in the second of two indexes, the moves of all queries together, and
 /// seconds of one call.
@@ -21,10 +15,8 @@ pub struct Second {
     pub name: &'static str,
     pub moved: [usize; 2],
     pub moves: u64,
-    pub empty: Pair,
+    pub one: Pair,
     pub two: Pair,
-    /// before there was a second index, where that search is linked
-    pub before: Option<f64>,
 }
 
 /// How much to measure: queries of each kind, rounds over all of them, and calls for each reading of the clock.
@@ -45,12 +37,7 @@ struct Notes {
 struct Asked {
     one: Query,
     two: Query,
-    times: [Least; 5],
-}
-
-/// Document 01's plant P, where the cost of a call that no table adds to shows most.
-pub fn small() -> Tables {
-    paper::read_plant(include_bytes!("../../sample/plant.txt"), paper::ROOM).unwrap()
+    times: [Least; 4],
 }
 
 /// Whether the term at index k is in the second of two indexes: every fourth is.
@@ -78,7 +65,7 @@ impl Notes {
             _ => term,
         };
         let [required, forbidden] = [&one.required, &one.forbidden].map(|terms| terms.iter().map(moved).collect());
-        Asked { two: Query { required, forbidden, ..one.clone() }, one, times: [Least::NONE; 5] }
+        Asked { two: Query { required, forbidden, ..one.clone() }, one, times: [Least::NONE; 4] }
     }
 
     /// Every way gives the same numbers and the same entries of the answer, also where a budget stops it. The moves.
@@ -87,32 +74,24 @@ impl Notes {
         assert_eq!((whole.refusal, whole.position), (0, self.one.size() as u32 + 1));
         for budget in [0, whole.moves / 2, u32::MAX] {
             let (one, two) = (Query { budget, ..one.clone() }, Query { budget, ..two.clone() });
-            let found = self.answer(|answer| plain::search(&self.one, &one, answer));
-            assert!(self.answer(|answer| proved_search(&self.one, &one, answer)) == found);
+            let found = left_by(&self.one, |answer| plain::search(&self.one, &one, answer));
+            assert!(left_by(&self.one, |answer| proved_search(&self.one, &one, answer)) == found);
             for search in [ffi::search, plain::search_in_two] {
-                assert!(self.answer(|answer| search(&self.first, &self.second, &two, answer)) == found);
+                assert!(left_by(&self.one, |answer| search(&self.first, &self.second, &two, answer)) == found);
             }
-            assert!(BEFORE.is_none_or(|search| self.answer(|answer| search(&self.one, &one, answer)) == found));
         }
         whole.moves as u64
-    }
-
-    /// What a search gives, and the answer that it leaves.
-    fn answer(&self, search: impl FnOnce(&mut [u16]) -> Answer) -> (Answer, Vec<u16>) {
-        let mut answer = vec![7; self.one.size()];
-        (search(&mut answer), answer)
     }
 
     /// One round over one query. The ways go to and fro, so that each comes next to one over the same tables.
     fn round(&self, asked: &mut Asked, effort: &Effort, round: usize, answer: &mut [u16]) {
         let Notes { one, first, second } = self;
-        let Asked { one: q, two: moved, times: [before, empty, plain, two, plain_two] } = asked;
-        for turn in 0..5 {
-            match if round % 2 == 0 { turn } else { 4 - turn } {
-                0 => BEFORE.iter().for_each(|search| before.of(|| effort.call(|| search(one, black_box(q), answer)))),
-                1 => empty.of(|| effort.call(|| proved_search(one, black_box(q), answer))),
-                2 => plain.of(|| effort.call(|| plain::search(one, black_box(q), answer))),
-                3 => two.of(|| effort.call(|| ffi::search(first, second, black_box(moved), answer))),
+        let Asked { one: q, two: moved, times: [one_index, plain, two, plain_two] } = asked;
+        for turn in 0..4 {
+            match if round % 2 == 0 { turn } else { 3 - turn } {
+                0 => one_index.of(|| effort.call(|| proved_search(one, black_box(q), answer))),
+                1 => plain.of(|| effort.call(|| plain::search(one, black_box(q), answer))),
+                2 => two.of(|| effort.call(|| ffi::search(first, second, black_box(moved), answer))),
                 _ => plain_two.of(|| effort.call(|| plain::search_in_two(first, second, black_box(moved), answer))),
             }
         }
@@ -120,7 +99,7 @@ impl Notes {
 }
 
 impl Effort {
-    fn call(&self, mut search: impl FnMut() -> Answer) {
+    pub fn call(&self, mut search: impl FnMut() -> Answer) {
         for _ in 0..self.calls {
             black_box(search());
         }
@@ -143,8 +122,8 @@ fn refusals_agree(r: &mut Random, notes: &Notes, q: &Query) {
             6 => *first.terms.last_mut().unwrap() = r.of(&[SECOND - 1, SECOND, u16::MAX]),
             _ => first.terms[0] = 0,
         }
-        let found = notes.answer(|answer| plain::search_in_two(&first, &second, q, answer));
-        assert!(notes.answer(|answer| ffi::search(&first, &second, q, answer)) == found);
+        let found = left_by(&notes.one, |answer| plain::search_in_two(&first, &second, q, answer));
+        assert!(left_by(&notes.one, |answer| ffi::search(&first, &second, q, answer)) == found);
         seen[found.0.refusal as usize] = true;
     }
     assert!([0, 6, 15, 55, 56, 57, 58, 59].iter().all(|&k: &usize| seen[k]));
@@ -171,8 +150,7 @@ pub fn measure(name: &'static str, t: Tables, effort: Effort) -> Second {
         name,
         moved: [notes.second.terms.len(), notes.second.postings.len()],
         moves,
-        empty: Pair { proved: mean(1), plain: mean(2) },
-        two: Pair { proved: mean(3), plain: mean(4) },
-        before: BEFORE.map(|_| mean(0)),
+        one: Pair { proved: mean(0), plain: mean(1) },
+        two: Pair { proved: mean(2), plain: mean(3) },
     }
 }

@@ -1,5 +1,6 @@
 //! SQLite in memory: the unshared lists as one table keyed by term and device, a prepared statement for each shape of query.
-use crate::paper::Query;
+use crate::paper::{Levels, Query};
+use crate::plain;
 use crate::unshared::Unshared;
 use std::collections::HashMap;
 use std::ffi::{c_char, c_int, c_void, CString};
@@ -30,7 +31,7 @@ const ROW: c_int = 100;
 /// To read and write, to create, and without locks: one thread alone uses it.
 const FLAGS: c_int = 0x2 | 0x4 | 0x8000;
 
-/// How many required terms, how many forbidden, and whether there is a level range.
+/// How many required terms, how many forbidden, and whether levels are read.
 type Shape = (usize, usize, bool);
 
 pub struct Database {
@@ -88,13 +89,13 @@ impl Database {
         unsafe { sqlite3_finalize(statement) };
     }
 
-    fn sql((required, forbidden, ranged): Shape) -> String {
+    fn sql((required, forbidden, levels): Shape) -> String {
         let mut sql = String::from("SELECT c1.device FROM carries c1");
         for k in 2..=required {
             sql += &format!(" JOIN carries c{k} ON c{k}.term = ?{k} AND c{k}.device = c1.device");
         }
         let mut next = required + 1;
-        if ranged {
+        if levels {
             sql += &format!(" JOIN device d ON d.number = c1.device AND d.level BETWEEN ?{next} AND ?{}", next + 1);
             next += 2;
         }
@@ -107,7 +108,9 @@ impl Database {
 
     /// The shortest required list is given first: from its devices the others are looked up.
     pub fn search(&mut self, q: &Query, answer: &mut [u16]) -> usize {
-        let shape = (q.required.len(), q.forbidden.len(), q.levels.is_some());
+        let (low, high) = plain::codes(q.levels);
+        let levels = (q.levels != Levels::Any).then_some([low as u32, high as u32]);
+        let shape = (q.required.len(), q.forbidden.len(), levels.is_some());
         let statement = match self.statements.get(&shape) {
             Some(&statement) => statement,
             None => {
@@ -116,7 +119,6 @@ impl Database {
                 statement
             }
         };
-        let levels = q.levels.map(|(low, high)| [low, high]);
         let mut required = q.required.clone();
         required.sort_by_key(|&term| self.sizes[term as usize]);
         let values = required.iter().chain(levels.iter().flatten()).chain(&q.forbidden);

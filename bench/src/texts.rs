@@ -1,5 +1,5 @@
 //! Queries as texts.
-use crate::paper::Query;
+use crate::paper::{Levels, Query};
 use std::fmt::Write;
 
 /// The query text of a query.
@@ -10,8 +10,10 @@ pub fn query(q: &Query) -> Vec<u8> {
             writeln!(out, "({word} {term})").unwrap();
         }
     }
-    if let Some((low, high)) = q.levels {
-        writeln!(out, "(level {low} {high})").unwrap();
+    match q.levels {
+        Levels::Any => out += "(level any)\n",
+        Levels::TrueOnly => (),
+        Levels::Range(low, high) => writeln!(out, "(level {low} {high})").unwrap(),
     }
     writeln!(out, "(from {})\n(moves {})\n)", q.start, q.budget).unwrap();
     out.into_bytes()

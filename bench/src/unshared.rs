@@ -1,5 +1,6 @@
 //! Lists written out for every device that carries a term, and an ordinary join of them.
-use crate::paper::{device_of, Query, Tables};
+use crate::paper::{device_of, Levels, Query, Tables};
+use crate::plain;
 
 pub struct Unshared {
     /// the list of each term, by its number; those of absent terms are empty
@@ -12,7 +13,7 @@ impl Unshared {
         let mut lists = vec![vec![]; 65_536];
         for &term in &t.terms {
             let list = &mut lists[term as usize];
-            for &posting in crate::plain::list_of(t, term as u32) {
+            for &posting in plain::list_of(t, term as u32) {
                 let d = device_of(posting) as u16;
                 let end = if posting % 2 == 1 { t.last[d as usize - 1] } else { d };
                 list.extend(d..=end);
@@ -44,11 +45,12 @@ impl Unshared {
         let forbidden = &mut forbidden[..q.forbidden.len()];
         required.sort_by_key(|l| l.len());
         let (first, others) = required.split_first_mut().unwrap();
+        let (any, (low, high)) = (q.levels == Levels::Any, plain::codes(q.levels));
         let mut count = 0;
         for &d in first.iter() {
             let wanted = others.iter_mut().all(|l| stands_at(l, d))
                 && !forbidden.iter_mut().any(|l| stands_at(l, d))
-                && q.levels.is_none_or(|(low, high)| (low..=high).contains(&(self.level[d as usize - 1] as u32)));
+                && (any || (low..=high).contains(&self.level[d as usize - 1]));
             if wanted {
                 answer[count] = d;
                 count += 1;

@@ -70,6 +70,12 @@ pub fn proved_search(t: &Tables, q: &Query, answer: &mut [u16]) -> Answer {
     ffi::search(t, &Index::default(), q, answer)
 }
 
+/// What a search of the tables gives, and the answer that it leaves.
+pub fn left_by(t: &Tables, search: impl FnOnce(&mut [u16]) -> Answer) -> (Answer, Vec<u16>) {
+    let mut answer = vec![7; t.size()];
+    (search(&mut answer), answer)
+}
+
 /// The tables with every list emptied that the query does not name, and a branch kept only for roots and for devices that those
 /// lists have a posting at. The steps read the same entries, and the check is far shorter.
 pub fn few(t: &Tables, q: &Query) -> Tables {
