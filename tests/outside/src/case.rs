@@ -1,13 +1,14 @@
 //! A case, its two outcomes, and whether they differ.
 use crate::ffi::ReadQuery;
-use crate::paper::{self, Answer, Index, Query, Refused, Tables, LIMIT};
+use crate::generate::query_text;
+use crate::paper::{self, Answer, Index, Levels, Query, Refused, Tables, LIMIT};
 use crate::{slow, Subject};
 
 #[derive(Clone, Debug)]
 pub enum Case {
     Check(Tables),
-    /// Tables with the first index, the second index, query, and the answer list as lent.
-    Search(Tables, Index, Query, Vec<u16>),
+    /// Tables with the first index, the second index, query, how its levels are handed over, and the answer list as lent.
+    Search(Tables, Index, Query, Handing, Vec<u16>),
     /// A text, and the lengths of the six tables lent.
     Plant(Vec<u8>, [usize; 6]),
     /// Tables, and the buffer as lent.
@@ -17,6 +18,20 @@ pub enum Case {
     Tighten(Tables),
     Query(Vec<u8>),
     Respond(Vec<u8>, Vec<u8>),
+}
+
+/// How the levels of a query are handed over, where it is not by their own numbers: a number for a range, from 2 up, and the low
+/// and high where there is no range, which are not looked at.
+pub type Handing = Option<[u32; 3]>;
+
+/// The three numbers that levels are handed over by.
+pub fn handed(levels: Levels, handing: Handing) -> [u32; 3] {
+    let [kind, low, high] = levels.numbers();
+    match (levels, handing) {
+        (_, None) => [kind, low, high],
+        (Levels::Range(..), Some([range, ..])) => [range, low, high],
+        (_, Some([_, low, high])) => [kind, low, high],
+    }
 }
 
 /// Everything that comes back: numbers and what was lent.
@@ -79,11 +94,16 @@ pub fn parted(t: &Tables) -> (Tables, Index) {
 }
 
 impl Case {
+    /// A search whose levels are handed over by their own numbers.
+    pub fn search(t: Tables, second: Index, q: Query, answer: Vec<u16>) -> Case {
+        Case::Search(t, second, q, None, answer)
+    }
+
     /// What the papers say.
     pub fn expected(&self) -> Outcome {
         match self {
             Case::Check(t) => Outcome::Number(t.check()),
-            Case::Search(t, second, q, answer) => {
+            Case::Search(t, second, q, _, answer) => {
                 let mut answer = answer.clone();
                 Outcome::Answer(t.search(second, q, &mut answer), answer)
             }
@@ -104,12 +124,7 @@ impl Case {
                 Outcome::Tightened(refusal, count, t)
             }
             Case::Query(text) => query_outcome(paper::read_query(text)),
-            Case::Respond(plant, query) => {
-                let mut out = paper::respond(plant, query);
-                let length = out.len();
-                out.resize(16384, 0xee);
-                Outcome::Bytes(length, out)
-            }
+            Case::Respond(plant, query) => printed(paper::respond(plant, query)),
         }
     }
 
@@ -146,7 +161,8 @@ impl Case {
 
     /// What was written is read, and what was read is written, with just enough room and with more: the same comes back. What was
     /// repaired is accepted, and repairing it again, with no room in the report, changes nothing. What was tightened is accepted,
-    /// tightening it again changes nothing, and complete listings stay.
+    /// tightening it again changes nothing, and complete listings stay. What was searched or answered is so by other
+    /// choices of levels.
     fn way_back(&self, outcome: &Outcome) -> Vec<(Case, Outcome)> {
         match (self, outcome) {
             (Case::Write(t, _), Outcome::Written(0, length, bytes)) => {
@@ -176,8 +192,22 @@ impl Case {
                 back.extend(listings(before, &t));
                 back
             }
+            (Case::Search(..), Outcome::Answer(got @ Answer { refusal: 0, .. }, _)) => self.searched_by_levels(got),
+            (Case::Respond(plant, query), Outcome::Bytes(length, out)) => answered_by_levels(plant, query, &out[..*length]),
             _ => vec![],
         }
+    }
+
+    /// An accepted search by other choices of levels: position, passed and moves stay.
+    fn searched_by_levels(&self, got: &Answer) -> Vec<(Case, Outcome)> {
+        let Case::Search(t, second, q, handing, lent) = self else { return vec![] };
+        let searched = |(levels, mut listing): (Levels, Vec<u16>)| {
+            let answer = Answer { count: listing.len() as u32, ..*got };
+            listing.extend(&lent[listing.len()..]);
+            let q = Query { levels, ..q.clone() };
+            (Case::Search(t.clone(), second.clone(), q, *handing, lent.clone()), Outcome::Answer(answer, listing))
+        };
+        listed_by_levels(t, second, q, *handing).into_iter().map(searched).collect()
     }
 
     /// Small cases are held to the slow evaluator too.
@@ -187,7 +217,7 @@ impl Case {
                 let slow = slow::check(t);
                 (slow != *n).then(|| format!("check gives {slow}"))
             }
-            (Case::Search(t, second, q, lent), Outcome::Answer(got, answer)) => {
+            (Case::Search(t, second, q, _, lent), Outcome::Answer(got, answer)) => {
                 search_against_slow(t, second, q, lent, *got, answer)
             }
             (Case::Write(t, _), Outcome::Written(0 | 36 | 40, ..)) if t.size() <= 130 => {
@@ -196,9 +226,38 @@ impl Case {
             }
             (Case::Repair(t, lent), Outcome::Repaired(..)) if small(t) => repair_against_slow(t, lent, outcome),
             (Case::Tighten(t), Outcome::Tightened(refusal, count, after)) => tighten_against_slow(t, *refusal, *count, after),
+            (Case::Query(text), Outcome::Query(read)) => levels_against_slow(text, read),
             _ => None,
         }
     }
+}
+
+/// What an accepted query lists by two other choices of levels, of any level, true levels only and a range: of the devices for any
+/// level those whose codes are asked for.
+fn listed_by_levels(t: &Tables, second: &Index, q: &Query, handing: Handing) -> Vec<(Levels, Vec<u16>)> {
+    let mut all = vec![0; t.size()];
+    let any = t.search(second, &Query { levels: Levels::Any, ..q.clone() }, &mut all);
+    all.truncate(any.count as usize);
+    let low = handing.map_or(99, |[_, low, _]| low % 254) + 1;
+    let range = if let Levels::Range(..) = q.levels { q.levels } else { Levels::Range(low, 254) };
+    let listed = |levels: Levels| {
+        let codes = slow::codes(levels);
+        let asked_for = |d: &&u16| codes.contains(&(t.level[**d as usize - 1] as u32));
+        (levels, all.iter().filter(asked_for).copied().collect())
+    };
+    [Levels::Any, Levels::TrueOnly, range].into_iter().filter(|levels| *levels != q.levels).map(listed).collect()
+}
+
+/// An accepted ask by other choices of levels: the lines from the place on stay.
+fn answered_by_levels(plant: &[u8], query: &[u8], out: &[u8]) -> Vec<(Case, Outcome)> {
+    let (Ok(t), Ok(q)) = (paper::read_plant(plant, paper::ROOM), paper::read_query(query)) else { return vec![] };
+    let Some(place) = out.windows(7).position(|w| w == b"(place ") else { return vec![] };
+    let answered = |(levels, listing): (Levels, Vec<u16>)| {
+        let devices: String = listing.iter().map(|device| format!("(device {device})\n")).collect();
+        let text = [b"(answer\n", devices.as_bytes(), &out[place..]].concat();
+        (Case::Respond(plant.to_vec(), query_text(&Query { levels, ..q.clone() })), printed(text))
+    };
+    listed_by_levels(&t, &Index::default(), &q, None).into_iter().map(answered).collect()
 }
 
 /// The refusal, for small tables; then what an accepted search breaks, or what a refused one changed.
@@ -268,6 +327,13 @@ fn tighten_against_slow(t: &Tables, refusal: u32, count: usize, after: &Tables) 
     slow::tighten_broken(t, &shortened(after, count)).map(str::to_string)
 }
 
+/// What an ask text says of levels; after a refusal, true levels only.
+fn levels_against_slow(text: &[u8], read: &ReadQuery) -> Option<String> {
+    let slow = if read.refusal == 0 { slow::level_line(text) } else { Some(slow::NO_LEVEL_LINE) };
+    let same = slow.is_some_and(|levels| levels == read.numbers[3..6]);
+    (!same).then(|| format!("levels are {slow:?}"))
+}
+
 /// Whether tables are few enough for the slow evaluator.
 fn small(t: &Tables) -> bool {
     t.size() <= 40 && t.postings.len() <= 100
@@ -283,7 +349,7 @@ fn listings(before: &Tables, after: &Tables) -> Vec<(Case, Outcome)> {
     for query in complete_queries(before) {
         let of_index = |t: &Tables| {
             let (first, second) = parted(t);
-            Case::Search(first, second, query.clone(), vec![0xabcd; t.size()])
+            Case::search(first, second, query.clone(), vec![0xabcd; t.size()])
         };
         let (old, new) = (of_index(before), of_index(after));
         let (listed, of_new) = (old.expected(), new.expected());
@@ -300,8 +366,8 @@ fn complete_queries(t: &Tables) -> [Query; 3] {
     let term = |i: usize| t.terms[(t.postings.len() + i) % t.terms.len()] as u32;
     let start = (t.postings.len() % t.size()) as u32 + 1;
     [
-        Query { required: vec![term(0)], ..Query::empty() },
-        Query { forbidden: vec![term(1)], levels: Some((1, 254)), start, ..Query::empty() },
+        Query { required: vec![term(0)], levels: Levels::Any, ..Query::empty() },
+        Query { forbidden: vec![term(1)], levels: Levels::Range(1, 254), start, ..Query::empty() },
         Query { required: vec![term(1)], forbidden: vec![term(2)], ..Query::empty() },
     ]
 }
@@ -314,14 +380,21 @@ fn plant_outcome(read: Result<Tables, Refused>, room: [usize; 6]) -> Outcome {
     Outcome::Plant(refusal, numbers, resized(t, room))
 }
 
+/// These bytes at the front of what is lent to a response.
+pub fn printed(mut text: Vec<u8>) -> Outcome {
+    let length = text.len();
+    text.resize(16384, 0xee);
+    Outcome::Bytes(length, text)
+}
+
 /// A query in the shape in which it is handed out: unused places hold 0, and a refusal comes with an empty query.
-fn query_outcome(read: Result<Query, Refused>) -> Outcome {
+pub fn query_outcome(read: Result<Query, Refused>) -> Outcome {
     let (refusal, line, query) = match read {
         Ok(query) => (0, 0, query),
         Err((number, line)) => (number, line, Query::empty()),
     };
     let places = |terms: &[u32]| std::array::from_fn(|i| terms.get(i).copied().unwrap_or(0));
-    let (ranged, low, high) = query.levels.map_or((0, 0, 0), |(low, high)| (1, low, high));
+    let [levels, low, high] = query.levels.numbers();
     Outcome::Query(ReadQuery {
         refusal,
         required: places(&query.required),
@@ -330,7 +403,7 @@ fn query_outcome(read: Result<Query, Refused>) -> Outcome {
             line as usize,
             query.required.len(),
             query.forbidden.len(),
-            ranged,
+            levels as usize,
             low as usize,
             high as usize,
             query.start as usize,
@@ -361,7 +434,10 @@ impl std::fmt::Display for Case {
         let text = |bytes: &[u8]| String::from_utf8_lossy(bytes).into_owned();
         match self {
             Case::Check(t) => write!(f, "check of {t:?}"),
-            Case::Search(t, second, q, answer) => write!(f, "search in {t:?}\nand {second:?}\n{q:?}\nanswer list {answer:?}"),
+            Case::Search(t, second, q, handing, answer) => {
+                let [levels, low, high] = handed(q.levels, *handing);
+                write!(f, "search in {t:?}\nand {second:?}\n{q:?}\nlevels {levels}, {low}, {high}\nanswer list {answer:?}")
+            }
             Case::Plant(bytes, room) => write!(f, "plant text {:?}\ntables of {room:?}", text(bytes)),
             Case::Write(t, buffer) => write!(f, "writing of {t:?}\ninto {:?}", text(buffer)),
             Case::Repair(t, report) => write!(f, "repair of {t:?}\nreport {report:?}"),

@@ -13,7 +13,7 @@ extern "C" {
         terms: *const u16, terms_len: usize, starts: *const u32, starts_len: usize, postings: *const u32, postings_len: usize,
         second_terms: *const u16, second_terms_len: usize, second_starts: *const u32, second_starts_len: usize,
         second_postings: *const u32, second_postings_len: usize, required: *const u32, required_len: usize,
-        forbidden: *const u32, forbidden_len: usize, ranged: u32, low: u32, high: u32, start: u32, budget: u32, answer: *mut u16,
+        forbidden: *const u32, forbidden_len: usize, levels: u32, low: u32, high: u32, start: u32, budget: u32, answer: *mut u16,
         answer_len: usize, numbers: *mut [u32; 4],
     ) -> u32;
 
@@ -70,7 +70,11 @@ pub fn check(t: &Tables) -> u32 {
 }
 
 pub fn search(t: &Tables, second: &Index, query: &Query, answer: &mut [u16]) -> Answer {
-    let (ranged, low, high) = query.levels.map_or((0, 0, 0), |(low, high)| (1, low, high));
+    search_by(t, second, query, query.levels.numbers(), answer)
+}
+
+/// A search by these three numbers in place of the query's levels.
+pub fn search_by(t: &Tables, second: &Index, query: &Query, [levels, low, high]: [u32; 3], answer: &mut [u16]) -> Answer {
     let mut numbers = [u32::MAX; 4];
     let refusal = unsafe {
         plant_search_search(
@@ -96,7 +100,7 @@ pub fn search(t: &Tables, second: &Index, query: &Query, answer: &mut [u16]) -> 
             query.required.len(),
             query.forbidden.as_ptr(),
             query.forbidden.len(),
-            ranged,
+            levels,
             low,
             high,
             query.start,
@@ -208,7 +212,8 @@ pub fn tighten(t: &mut Tables) -> (u32, usize) {
     (refusal, numbers[0])
 }
 
-/// A query as read: the refusal, the two lists of terms, and line, counts, whether a range is set, low, high, start, budget.
+/// A query as read: the refusal, the two lists of terms, and line, counts, levels, low, high, start, budget. Levels is 0 for any,
+/// 1 for true levels only, 2 for a range; low and high are zeros where there is none.
 #[derive(Debug, PartialEq)]
 pub struct ReadQuery {
     pub refusal: u32,

@@ -1,6 +1,7 @@
 //! Random cases: sound plants, tables with damage, queries, texts and texts with damage.
 use crate::case::{parted, Case};
-use crate::paper::{device_of, Index, Query, Tables};
+use crate::level_cases::{self, handing, levels, put_level_lines, true_range};
+use crate::paper::{device_of, Index, Levels, Query, Tables};
 use crate::random::Random;
 use crate::repair_cases;
 use crate::search_cases::{self, in_one};
@@ -25,7 +26,7 @@ pub fn forest(r: &mut Random, n: usize, depth: usize) -> Tables {
         open.push(index);
         t.last.push(n as u16);
         t.root.push(open[0] as u16 + 1);
-        t.level.push(if r.one_in(6) { r.of(&[0, 0, 1, 2, 253, 254, 255, 255]) } else { r.below(level) as u8 });
+        t.level.push(if r.one_in(3) { r.of(&[0, 0, 1, 1, 2, 253, 254, 254, 255, 255]) } else { r.below(level) as u8 });
     }
     t
 }
@@ -255,9 +256,6 @@ fn terms(r: &mut Random, indexes: &[Index], most: usize) -> Vec<u32> {
     (0..count).map(|_| one(r)).collect()
 }
 
-/// Ends of level ranges, at the edges of the true levels.
-const ENDS: [u32; 9] = [0, 1, 2, 128, 253, 254, 255, 256, u32::MAX];
-
 /// A query over so many devices and these indexes.
 pub fn query(r: &mut Random, devices: usize, indexes: &[Index]) -> Query {
     let n = devices as u32;
@@ -266,15 +264,7 @@ pub fn query(r: &mut Random, devices: usize, indexes: &[Index]) -> Query {
     if r.one_in(15) && required.len() < 8 {
         required.extend(forbidden.first());
     }
-    let levels = match r.below(12) {
-        0 => Some((r.below(260) as u32, r.below(260) as u32)),
-        1 => Some((r.of(&ENDS), r.of(&ENDS))),
-        2 | 3 => {
-            let low = r.between(1, 254);
-            Some((low as u32, r.between(low, 254) as u32))
-        }
-        _ => None,
-    };
+    let levels = levels(r);
     let start = match r.below(12) {
         0 => r.of(&[0, n + 2, u32::MAX, n + 1]),
         1..=3 => r.below(n as usize + 1) as u32 + 1,
@@ -312,7 +302,9 @@ fn selective(r: &mut Random, terms: [u16; 4]) -> (Tables, Index, Query) {
     required.extend((0..r.below(3)).map(|_| r.of(&asked)));
     let forbidden = required.split_off(r.between(1, required.len()));
     let start = if r.one_in(4) { r.between(1, n + 1) as u32 } else { 1 };
-    let mut q = Query { required, forbidden, start, ..Query::empty() };
+    let range = true_range(r);
+    let levels = r.of(&[Levels::Any, Levels::TrueOnly, range]);
+    let mut q = Query { required, forbidden, levels, start, ..Query::empty() };
     let (t, second) = parted(&t);
     if r.one_in(2) {
         q.budget = r.below(t.moves(&second, &q).len() + 1) as u32;
@@ -351,8 +343,10 @@ pub fn query_text(q: &Query) -> Vec<u8> {
     for term in &q.forbidden {
         out += &format!("(not {term})\n");
     }
-    if let Some((low, high)) = q.levels {
-        out += &format!("(level {low} {high})\n");
+    match q.levels {
+        Levels::Any => out += "(level any)\n",
+        Levels::TrueOnly => (),
+        Levels::Range(low, high) => out += &format!("(level {low} {high})\n"),
     }
     if q.start != 1 {
         out += &format!("(from {})\n", q.start);
@@ -363,7 +357,7 @@ pub fn query_text(q: &Query) -> Vec<u8> {
     (out + ")\n").into_bytes()
 }
 
-const LINES: [&[u8]; 32] = [
+const LINES: [&[u8]; 33] = [
     b")",
     b"",
     b"(plant",
@@ -390,6 +384,7 @@ const LINES: [&[u8]; 32] = [
     b"(not 9)",
     b"(not 0)",
     b"(level 1 2)",
+    b"(level any)",
     b"(level 1)",
     b"(level 1  2)",
     b"(from 1)",
@@ -398,12 +393,16 @@ const LINES: [&[u8]; 32] = [
     b"(moves 00)",
 ];
 
-const BYTES: &[u8] = b"() \n\r\t0123456789adnplm\0\xff";
+const BYTES: &[u8] = b"() \n\r\t0123456789adnplmyA\0\xff";
+
+/// The lines of a text, each with its LF.
+pub fn lines(text: &[u8]) -> Vec<Vec<u8>> {
+    text.split_inclusive(|&b| b == b'\n').map(<[u8]>::to_vec).collect()
+}
 
 /// Damage to a text: a byte or a line changed, put in, left out, or the text cut.
 fn spoil(r: &mut Random, text: &mut Vec<u8>) {
     let at = r.below(text.len() + 1);
-    let lines = |text: &[u8]| -> Vec<Vec<u8>> { text.split_inclusive(|&b| b == b'\n').map(<[u8]>::to_vec).collect() };
     match r.below(9) {
         0 => text.truncate(at),
         1 => text.insert(at, r.of(BYTES)),
@@ -469,7 +468,9 @@ fn some_plant_text(r: &mut Random, t: &Tables) -> Vec<u8> {
 
 fn some_query_text(r: &mut Random, t: &Tables) -> Vec<u8> {
     let mut text = query_text(&query(r, t.size(), &[t.index()]));
-    if r.one_in(2) {
+    if r.one_in(4) {
+        put_level_lines(r, &mut text);
+    } else if r.one_in(2) {
         spoil(r, &mut text);
     }
     if r.one_in(8) {
@@ -572,7 +573,7 @@ pub fn case(r: &mut Random) -> Case {
             let terms = r.of(&AROUND);
             let (t, second, q) = selective(r, terms);
             let answer = vec![r.next() as u16; t.size()];
-            Case::Search(t, second, q, answer)
+            Case::Search(t, second, q, handing(r), answer)
         }
         28..31 => repair_cases::case(r),
         _ => tighten_cases::case(r),
@@ -589,9 +590,9 @@ pub const Q: &[u8] = b"(plant\n(dev 100\n(dev 101\n(dev 102\n)\n(dev 103\n)\n(de
 (mark 1\n(own 9)\n)\n(mark 2\n(own 6)\n(all 7)\n)\n(mark 3\n(own 2)\n(own 3)\n(own 4)\n)\n\
 (mark 4\n(own 2)\n(own 3)\n(own 4)\n(own 6)\n(own 8)\n)\n)\n";
 
-/// Cases without chance: each way to damage P in one place, P's text and an ask cut and changed at every byte, every small
-/// query over P, searches in two indexes, tables of lengths 0 and 1, what is written at each limit, the longest lists, repairs
-/// and tightenings.
+/// Cases without chance: each way to damage P in one place, P's text and two asks cut and changed at every byte, every small
+/// query over P, searches in two indexes, every level code and level line, tables of lengths 0 and 1, what is written at each
+/// limit, the longest lists, repairs and tightenings.
 pub fn systematic() -> Vec<Case> {
     let p = crate::paper::read_plant(P, [9; 6]).unwrap();
     let mut cases = vec![];
@@ -607,7 +608,7 @@ pub fn systematic() -> Vec<Case> {
     }
     small_queries(&p, &Index::default(), &[7, 8, 9], &mut cases);
     search_cases::systematic(&mut cases);
-    level_ranges(&mut cases);
+    level_cases::systematic(&mut cases);
     short_tables(&mut cases);
     short_texts(&mut cases);
     deep_plants(&mut cases);
@@ -619,38 +620,29 @@ pub fn systematic() -> Vec<Case> {
     cases
 }
 
-/// A device for each level code, and every range of these ends.
-fn level_ranges(cases: &mut Vec<Case>) {
-    let trees: Vec<u16> = (1..=256).collect();
-    let t = Tables { last: trees.clone(), root: trees, level: (0..=255).collect(), ..Tables::default() };
-    for range in ENDS.iter().flat_map(|&low| ENDS.map(|high| (low, high))) {
-        let query = Query { levels: Some(range), ..Query::empty() };
-        cases.push(in_one(t.clone(), query, vec![5; 256]));
+/// Two asks: for a range, and for any level.
+const ASKS: [&[u8]; 2] = [
+    b"(ask\n(need 7)\n(need 8)\n(not 9)\n(level 100 140)\n(from 1)\n(moves 50)\n)\n",
+    b"(ask\n(need 7)\n(not 9)\n(level any)\n(from 1)\n(moves 50)\n)\n",
+];
+
+/// P and the asks, cut at every byte, and with each byte changed.
+fn damaged_texts(cases: &mut Vec<Case>) {
+    for cut in 0..=P.len() {
+        cases.push(Case::Plant(P[..cut].to_vec(), [9; 6]));
+        cases.extend(ASKS.map(|ask| Case::Respond(P[..cut].to_vec(), ask.to_vec())));
+    }
+    cases.extend(changed(P).map(|text| Case::Plant(text, [9; 6])));
+    for ask in ASKS {
+        cases.extend((0..=ask.len()).map(|cut| Case::Query(ask[..cut].to_vec())));
+        cases.extend(changed(ask).map(Case::Query));
     }
 }
 
-/// P and an ask, cut at every byte, and with each byte changed.
-fn damaged_texts(cases: &mut Vec<Case>) {
-    let ask = b"(ask\n(need 7)\n(need 8)\n(not 9)\n(level 100 140)\n(from 1)\n(moves 50)\n)\n";
-    for cut in 0..=P.len() {
-        cases.push(Case::Plant(P[..cut].to_vec(), [9; 6]));
-        cases.push(Case::Respond(P[..cut].to_vec(), ask.to_vec()));
-    }
-    for cut in 0..=ask.len() {
-        cases.push(Case::Query(ask[..cut].to_vec()));
-    }
-    for &byte in BYTES {
-        for at in 0..P.len() {
-            let mut text = P.to_vec();
-            text[at] = byte;
-            cases.push(Case::Plant(text, [9; 6]));
-        }
-        for at in 0..ask.len() {
-            let mut text = ask.to_vec();
-            text[at] = byte;
-            cases.push(Case::Query(text));
-        }
-    }
+/// A text with each byte changed.
+fn changed(text: &[u8]) -> impl Iterator<Item = Vec<u8>> + '_ {
+    let with = |at: usize, byte: u8| [&text[..at], &[byte], &text[at + 1..]].concat();
+    BYTES.iter().flat_map(move |&byte| (0..text.len()).map(move |at| with(at, byte)))
 }
 
 /// P's tables with each entry set to small and to large numbers.
@@ -678,7 +670,8 @@ fn damaged_tables(p: &Tables, cases: &mut Vec<Case>) {
     }
 }
 
-/// Every query of up to two required and up to two forbidden of these terms, with every start and small budgets.
+/// Every query of up to two required and up to two forbidden of these terms, with every start, small budgets, and levels of each
+/// kind in turn.
 pub fn small_queries(t: &Tables, second: &Index, terms: &[u32], cases: &mut Vec<Case>) {
     let mut sides: Vec<Vec<u32>> = vec![vec![]];
     for &a in terms {
@@ -689,9 +682,9 @@ pub fn small_queries(t: &Tables, second: &Index, terms: &[u32], cases: &mut Vec<
         for forbidden in &sides {
             for start in 0..=t.size() as u32 + 2 {
                 for budget in (0..6).chain([u32::MAX]) {
-                    let levels = if budget == 5 { Some((100, 140)) } else { None };
+                    let levels = [Levels::Any, Levels::TrueOnly, Levels::Range(100, 140)][cases.len() % 3];
                     let q = Query { required: required.clone(), forbidden: forbidden.clone(), levels, start, budget };
-                    cases.push(Case::Search(t.clone(), second.clone(), q, vec![5; t.size()]));
+                    cases.push(Case::search(t.clone(), second.clone(), q, vec![5; t.size()]));
                 }
             }
         }
@@ -840,6 +833,6 @@ fn long_lists(cases: &mut Vec<Case>) {
         let terms: Vec<u32> = (lowest as u32..).take(16).collect();
         let (required, forbidden) = (terms[..8].to_vec(), terms[8..].to_vec());
         let q = Query { required, forbidden, start: 65_535, budget, ..Query::empty() };
-        cases.push(Case::Search(t, second, q, vec![5; 65_535]));
+        cases.push(Case::search(t, second, q, vec![5; 65_535]));
     }
 }

@@ -4,6 +4,8 @@
 mod case;
 mod ffi;
 mod generate;
+mod level_cases;
+mod level_mistakes;
 mod paper;
 mod random;
 mod repair;
@@ -19,7 +21,7 @@ mod tighten;
 mod tighten_cases;
 
 use case::{Case, Outcome};
-use paper::Answer;
+use paper::{Answer, Levels, Query};
 use random::Random;
 use std::time::Instant;
 
@@ -36,6 +38,8 @@ struct Tally {
     searches: [[usize; 2]; 2],
     /// accepted searches: how many have an empty second index, and how many name a term that it has
     second: [usize; 2],
+    /// accepted searches, for any level, for true levels only and for a range: how many, and how many of them leave devices out
+    levels: [[usize; 2]; 3],
     /// accepted repairs: how many, and how many of them drop postings
     repairs: [usize; 2],
     /// accepted tightenings: how many, and how many of them get shorter
@@ -60,12 +64,16 @@ impl Tally {
     }
 
     fn count(&mut self, case: &Case, expected: &Outcome) {
-        if let (Case::Search(t, second, q, _), Outcome::Answer(answer @ Answer { refusal: 0, .. }, _)) = (case, expected) {
+        if let (Case::Search(t, second, q, ..), Outcome::Answer(answer @ Answer { refusal: 0, .. }, _)) = (case, expected) {
             let [all, passing] = &mut self.searches[(answer.position as usize <= t.size()) as usize];
             *all += 1;
             *passing += (answer.passed > 0) as usize;
             self.second[0] += second.terms.is_empty() as usize;
             self.second[1] += q.required.iter().chain(&q.forbidden).any(|&term| second.terms.contains(&(term as u16))) as usize;
+            let any = t.search(second, &Query { levels: Levels::Any, ..q.clone() }, &mut vec![0; t.size()]);
+            let [all, leaving] = &mut self.levels[q.levels.numbers()[0] as usize];
+            *all += 1;
+            *leaving += (answer.count < any.count) as usize;
         }
         if let Outcome::Repaired(0, [dropped, _], ..) = expected {
             self.repairs[0] += 1;
@@ -93,6 +101,9 @@ impl Tally {
         }
         let [empty, named] = self.second;
         println!("accepted searches with an empty second index: {empty}, with a term that the second has: {named}");
+        for (levels, [all, leaving]) in ["any level", "true levels only", "a range"].iter().zip(self.levels) {
+            println!("accepted searches for {levels}: {all}, {leaving} of them leave devices out");
+        }
         println!("accepted repairs: {}, {} of them drop postings", self.repairs[0], self.repairs[1]);
         println!("accepted tightenings: {}, {} of them get shorter", self.tightenings[0], self.tightenings[1]);
         println!("{} cases, {} differ, {seconds:.1} seconds", self.cases, self.differ);
@@ -108,7 +119,7 @@ fn main() {
     let number = |i: usize, otherwise: u64| words.get(i).and_then(|w| w.parse().ok()).unwrap_or(otherwise);
     let wrong = words.first().is_some_and(|w| w == "wrong");
     let subject: &dyn Subject = if wrong { &subjects::Wrong(number(1, 1)) } else { &subjects::Archive };
-    let cases = if wrong { number(2, 250_000) } else { number(0, 1_400_000) };
+    let cases = if wrong { number(2, 280_000) } else { number(0, 1_400_000) };
     let mut random = Random(if wrong { 1 } else { number(1, 20_260_101) });
     let mut tally = Tally {
         cases: 0,
@@ -116,6 +127,7 @@ fn main() {
         refusals: [0; 60],
         searches: [[0; 2]; 2],
         second: [0; 2],
+        levels: [[0; 2]; 3],
         repairs: [0; 2],
         tightenings: [0; 2],
     };

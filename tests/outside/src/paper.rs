@@ -1,5 +1,6 @@
 //! Document 01 in plain Rust, written from its text: tables and their checks, the cursor steps, both texts, the response; and
-//! document 02's writing of a plant, count of the postings that moves pass over and second index.
+//! document 02's writing of a plant, count of the postings that moves pass over, second index and asks that say nothing about
+//! level.
 //! Nothing here is shared with the proved crates.
 
 #[derive(Clone, Debug, Default, PartialEq)]
@@ -23,18 +24,47 @@ pub struct Index {
 /// The lowest term of the second index.
 pub const LIMIT: u16 = 32_768;
 
+/// The level codes that a query asks for: any, the true levels only, or those from low to high.
+#[derive(Clone, Copy, Debug, PartialEq)]
+pub enum Levels {
+    Any,
+    TrueOnly,
+    Range(u32, u32),
+}
+
+impl Levels {
+    /// Whether a device with this code is left out. Codes 0 and 255 are no true levels.
+    pub fn leave_out(self, code: u8) -> bool {
+        let untrue = code == 0 || code == 255;
+        match self {
+            Levels::Any => false,
+            Levels::TrueOnly => untrue,
+            Levels::Range(low, high) => untrue || (code as u32) < low || (code as u32) > high,
+        }
+    }
+
+    /// As three numbers: 0 for any, 1 for true levels only, 2 for a range; then low and high, or zeros.
+    pub fn numbers(self) -> [u32; 3] {
+        match self {
+            Levels::Any => [0, 0, 0],
+            Levels::TrueOnly => [1, 0, 0],
+            Levels::Range(low, high) => [2, low, high],
+        }
+    }
+}
+
 #[derive(Clone, Debug, PartialEq)]
 pub struct Query {
     pub required: Vec<u32>,
     pub forbidden: Vec<u32>,
-    pub levels: Option<(u32, u32)>,
+    pub levels: Levels,
     pub start: u32,
     pub budget: u32,
 }
 
 impl Query {
     pub fn empty() -> Query {
-        Query { required: vec![], forbidden: vec![], levels: None, start: 1, budget: u32::MAX }
+        Query { required: vec![], forbidden: vec![], levels: Levels::TrueOnly, start: 1, budget: u32::MAX }
     }
 }
 
@@ -206,7 +236,7 @@ impl Tables {
             10
         } else if named.any(|&t| !(1..=65_535).contains(&t)) {
             11
-        } else if query.levels.is_some_and(|(low, high)| low > high || high > 254 || low == 0) {
+        } else if matches!(query.levels, Levels::Range(low, high) if low > high || high > 254 || low == 0) {
             12
         } else if query.start == 0 || query.start as u64 > n + 1 {
             13
@@ -233,7 +263,12 @@ impl Tables {
 
     /// The moves of an accepted query, in the order in which they are made.
     pub fn moves(&self, second: &Index, query: &Query) -> Vec<Move> {
-        Run::whole(self, |term| self.lookup(second, term), query, &mut vec![0; self.size()]).made
+        self.moves_over(|term| self.lookup(second, term), query)
+    }
+
+    /// The moves over the lists that are looked up.
+    pub fn moves_over<'a>(&'a self, lookup: impl Fn(u32) -> &'a [u32], query: &'a Query) -> Vec<Move> {
+        Run::whole(self, lookup, query, &mut vec![0; self.size()]).made
     }
 
     /// How many branches end with each device.
@@ -388,8 +423,7 @@ impl<'a> Run<'a> {
                 return true;
             }
         }
-        let code = self.tables.level[p - 1] as u32;
-        if self.query.levels.is_none_or(|(low, high)| low <= code && code <= high && code != 0 && code != 255) {
+        if !self.query.levels.leave_out(self.tables.level[p - 1]) {
             answer[self.count] = p as u16;
             self.count += 1;
         }
@@ -576,8 +610,11 @@ pub fn read_plant(text: &[u8], room: [usize; 6]) -> Result<Tables, Refused> {
     unreachable!()
 }
 
-/// The stage of an ask line: need, not, level, from and moves come in this order.
+/// The stage of an ask line, and its numbers: need, not, level, from and moves come in this order. `(level any)` has none.
 fn query_line(line: &[u8]) -> Option<(u32, Vec<u64>)> {
+    if line == b"(level any)" {
+        return Some((2, vec![]));
+    }
     let openings: [&[u8]; 5] = [b"(need ", b"(not ", b"(level ", b"(from ", b"(moves "];
     let stage = openings.iter().position(|o| line.starts_with(o))?;
     let inside = line[openings[stage].len()..].strip_suffix(b")")?;
@@ -627,12 +664,13 @@ pub fn read_query(text: &[u8]) -> Result<Query, Refused> {
 
 /// Sets what a line of this stage says; false: there are eight such terms already.
 fn set_line(query: &mut Query, at: u32, numbers: &[u64]) -> bool {
-    let first = numbers[0] as u32;
+    let first = numbers.first().map_or(0, |&n| n as u32);
     let terms = if at == 0 { &mut query.required } else { &mut query.forbidden };
     match at {
         0 | 1 if terms.len() == 8 => return false,
         0 | 1 => terms.push(first),
-        2 => query.levels = Some((first, numbers[1] as u32)),
+        2 if numbers.is_empty() => query.levels = Levels::Any,
+        2 => query.levels = Levels::Range(first, numbers[1] as u32),
         3 => query.start = first,
         _ => query.budget = first,
     }

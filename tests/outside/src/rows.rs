@@ -1,8 +1,9 @@
 //! Document 01's worked rows over plant P, and more over plant Q, which the plain implementation must give, in one index and in
 //! two, what it writes, what it repairs and what it tightens.
-use crate::case::{parted, Case, Outcome};
-use crate::generate::{self, of_tiers, P, Q};
-use crate::paper::{read_plant, read_query, respond, Answer, Index, Query, Tables, LIMIT, ROOM};
+use crate::case::{handed, parted, Case, Outcome};
+use crate::generate::{self, of_tiers, query_text, P, Q};
+use crate::level_cases;
+use crate::paper::{read_plant, read_query, respond, Answer, Index, Levels, Query, Tables, LIMIT, ROOM};
 use crate::random::Random;
 use crate::repair_cases::{self, one_list, plants};
 use crate::search_cases;
@@ -13,21 +14,21 @@ use crate::Subject;
 use std::collections::BTreeSet;
 
 /// The ask lines of a row, its devices, place, postings passed and moves.
-type Row = (&'static str, &'static [u16], u32, u32, u32);
+type Row<'a> = (&'a str, &'a [u16], u32, u32, u32);
 
 const ROWS: [Row; 12] = [
-    ("(need 7)\n", &[2, 3, 5], 7, 0, 2),
-    ("(need 9)\n", &[4, 5, 6], 7, 0, 0),
-    ("(need 7)\n(not 9)\n", &[2, 3], 7, 0, 1),
-    ("(need 9)\n(not 7)\n", &[4, 6], 7, 0, 2),
+    ("(need 7)\n(level any)\n", &[2, 3, 5], 7, 0, 2),
+    ("(need 9)\n(level any)\n", &[4, 5, 6], 7, 0, 0),
+    ("(need 7)\n(not 9)\n(level any)\n", &[2, 3], 7, 0, 1),
+    ("(need 9)\n(not 7)\n(level any)\n", &[4, 6], 7, 0, 2),
     ("(need 7)\n(level 100 140)\n", &[2], 7, 0, 2),
-    ("(need 7)\n(not 9)\n(moves 0)\n", &[2, 3], 4, 0, 0),
-    ("(need 8)\n", &[], 7, 0, 0),
-    ("(not 8)\n", &[1, 2, 3, 4, 5, 6], 7, 0, 0),
-    ("(need 7)\n(not 7)\n", &[], 7, 0, 3),
+    ("(need 7)\n(not 9)\n(level any)\n(moves 0)\n", &[2, 3], 4, 0, 0),
+    ("(need 8)\n(level any)\n", &[], 7, 0, 0),
+    ("(not 8)\n(level any)\n", &[1, 2, 3, 4, 5, 6], 7, 0, 0),
+    ("(need 7)\n(not 7)\n(level any)\n", &[], 7, 0, 3),
     ("(level 1 254)\n", &[1, 2, 4, 5, 6], 7, 0, 0),
-    ("(need 9)\n(from 6)\n", &[6], 7, 0, 0),
-    ("(need 7)\n(from 7)\n", &[], 7, 0, 0),
+    ("(need 9)\n(level any)\n(from 6)\n", &[6], 7, 0, 0),
+    ("(need 7)\n(level any)\n(from 7)\n", &[], 7, 0, 0),
 ];
 
 /// Rows over plant Q, whose moves pass postings over.
@@ -50,8 +51,13 @@ const PASSING: [Row; 11] = [
     ("(need 1)\n(need 2)\n(not 3)\n(not 3)\n(moves 2)\n", &[], 9, 2, 2),
 ];
 
+/// An ask of these lines.
+fn ask_of(lines: &str) -> Vec<u8> {
+    format!("(ask\n{lines})\n").into_bytes()
+}
+
 fn response(plant: &[u8], ask: &str) -> String {
-    String::from_utf8(respond(plant, format!("(ask\n{ask})\n").as_bytes())).unwrap()
+    String::from_utf8(respond(plant, &ask_of(ask))).unwrap()
 }
 
 fn row_is(plant: &[u8], (ask, devices, place, passed, moves): Row) {
@@ -64,19 +70,69 @@ fn row_is(plant: &[u8], (ask, devices, place, passed, moves): Row) {
 fn rows_over_p() {
     ROWS.into_iter().for_each(|row| row_is(P, row));
     row_is(b"(plant\n)\n", ("", &[], 1, 0, 0));
+    row_is(b"(plant\n)\n", ("(level any)\n", &[], 1, 0, 0));
     assert_eq!(response(P, "(from 8)\n"), "(refused query 13)\n");
     assert_eq!(response(P, "(level 1 255)\n"), "(refused query 12)\n");
     assert_eq!(response(P, "(level 0 254)\n"), "(refused query 12)\n");
 }
 
-/// Device 1 at 0, device 2 at 1: neither 0 nor 255 is in a range, and 1 is the lowest level.
+/// Without its level line a row leaves out device 3 of P, which is at 255; place, passed and moves are the same.
+#[test]
+fn rows_without_a_level_line() {
+    row_is(P, ("(need 7)\n(not 9)\n", &[2], 7, 0, 1));
+    for (ask, devices, place, passed, moves) in ROWS {
+        let any = "(level any)\n";
+        let listed: Vec<u16> = devices.iter().copied().filter(|&d| d != 3).collect();
+        if ask.contains(any) {
+            row_is(P, (&ask.replace(any, ""), &listed, place, passed, moves));
+        }
+    }
+}
+
+/// Device 1 at 0, device 2 at 1: neither 0 nor 255 is a true level, and 1 is the lowest.
 #[test]
 fn level_0_is_none() {
     let plant = b"(plant\n(dev 0\n(dev 1\n)\n(dev 255\n)\n(dev 254\n)\n)\n)\n";
     row_is(plant, ("(level 1 254)\n", &[2, 4], 5, 0, 0));
     row_is(plant, ("(level 1 1)\n", &[2], 5, 0, 0));
-    row_is(plant, ("", &[1, 2, 3, 4], 5, 0, 0));
+    row_is(plant, ("", &[2, 4], 5, 0, 0));
+    row_is(plant, ("(level any)\n", &[1, 2, 3, 4], 5, 0, 0));
     assert_eq!(response(plant, "(level 0 0)\n"), "(refused query 12)\n");
+}
+
+#[test]
+fn level_lines() {
+    let levels = |lines: &str| read_query(&ask_of(lines)).map(|query| query.levels);
+    assert_eq!(levels(""), Ok(Levels::TrueOnly));
+    assert_eq!(levels("(level any)\n"), Ok(Levels::Any));
+    assert_eq!(levels("(need 7)\n(not 9)\n(level any)\n(from 1)\n(moves 50)\n"), Ok(Levels::Any));
+    assert_eq!(levels("(level 100 140)\n"), Ok(Levels::Range(100, 140)));
+    for line in level_cases::BAD {
+        assert_eq!(levels(&format!("(need 7)\n{line}\n")), Err((31, 3)), "{line}");
+    }
+    let pairs = ["(level any)\n", "(level 1 2)\n"].map(|a| ["(level any)\n", "(level 1 2)\n"].map(|b| [a, b].concat()));
+    for pair in pairs.concat() {
+        assert_eq!(levels(&pair), Err((31, 3)));
+    }
+    assert_eq!(levels("(level any)\n(need 7)\n"), Err((31, 3)));
+    assert_eq!(levels("(from 1)\n(level any)\n"), Err((31, 3)));
+}
+
+/// A query is read from its text as it was, whatever it says of levels.
+#[test]
+fn queries_are_read_back() {
+    let read = |q: &Query| read_query(&query_text(q)) == Ok(q.clone());
+    let small = |q: &Query| q.required.len() <= 8 && q.forbidden.len() <= 8;
+    assert!(searches().all(|case| matches!(case, Case::Search(_, _, q, ..) if read(&q) || !small(&q))));
+}
+
+/// What is handed over: 0 for any and 1 for true levels only, whatever stands beside them, another number for a range.
+#[test]
+fn levels_are_handed_over() {
+    let handing = Some([9, 300, 2]);
+    assert_eq!([None, handing].map(|handing| handed(Levels::Any, handing)), [[0, 0, 0], [0, 300, 2]]);
+    assert_eq!([None, handing].map(|handing| handed(Levels::TrueOnly, handing)), [[1, 0, 0], [1, 300, 2]]);
+    assert_eq!([None, handing].map(|handing| handed(Levels::Range(5, 7), handing)), [[2, 5, 7], [9, 5, 7]]);
 }
 
 #[test]
@@ -89,7 +145,7 @@ fn rows_over_q() {
 fn passed_is_bounded() {
     let q = read_plant(Q, [11; 6]).unwrap();
     let broken = |ask: &str, passed: u32| {
-        let query = read_query(format!("(ask\n{ask})\n").as_bytes()).unwrap();
+        let query = read_query(&ask_of(ask)).unwrap();
         let (mut answer, none) = ([0; 9], Index::default());
         let unlimited = q.search(&none, &Query { budget: u32::MAX, ..query.clone() }, &mut answer);
         let got = q.search(&none, &query, &mut answer);
@@ -107,7 +163,7 @@ fn row_in_two_is(plant: &[u8], highest: u32, (ask, devices, position, passed, mo
     let mut t = read_plant(plant, ROOM).unwrap();
     t.terms.iter_mut().for_each(|term| *term = raised(*term as u32) as u16);
     let (first, second) = parted(&t);
-    let mut query = read_query(format!("(ask\n{ask})\n").as_bytes()).unwrap();
+    let mut query = read_query(&ask_of(ask)).unwrap();
     query.required.iter_mut().chain(&mut query.forbidden).for_each(|term| *term = raised(*term));
     let mut answer = vec![0; t.size()];
     let count = devices.len();
@@ -130,7 +186,7 @@ fn terms_at_the_limit() {
     let second = Index { terms: vec![32_768], starts: vec![0], postings: vec![4] };
     let listed = |term: u32| {
         let mut answer = [0; 2];
-        first.search(&second, &Query { required: vec![term], ..Query::empty() }, &mut answer);
+        first.search(&second, &Query { required: vec![term], levels: Levels::Any, ..Query::empty() }, &mut answer);
         answer
     };
     assert_eq!([1, 32_766, 32_767, 32_768, 32_769, 65_535].map(listed), [[0, 0], [0, 0], [1, 0], [2, 0], [0, 0], [0, 0]]);
@@ -206,7 +262,7 @@ fn in_one(t: &Tables, q: &Query, answer: &mut [u16]) -> Answer {
 #[test]
 fn one_index_as_before() {
     for case in searches() {
-        let Case::Search(t, _, q, lent) = case else { unreachable!() };
+        let Case::Search(t, _, q, _, lent) = case else { unreachable!() };
         if t.terms.iter().all(|&term| term < LIMIT) {
             let (mut before, mut after) = (lent.clone(), lent);
             let answers = (in_one(&t, &q, &mut before), t.search(&Index::default(), &q, &mut after));
@@ -220,7 +276,7 @@ fn one_index_as_before() {
 fn two_indexes_as_one() {
     for case in searches() {
         let outcome = case.expected();
-        let (Case::Search(t, second, q, mut answer), Outcome::Answer(got, listing)) = (case, outcome) else { unreachable!() };
+        let (Case::Search(t, second, q, _, mut answer), Outcome::Answer(got, listing)) = (case, outcome) else { unreachable!() };
         if got.refusal == 0 {
             let one = slow::joined(&t, &second);
             assert_eq!((one.run(|term| one.list_of(term), &q, &mut answer), answer), (got, listing));
@@ -238,11 +294,22 @@ fn searches_reach_every_refusal() {
     assert_eq!(reached(searches()), rows);
 }
 
-/// The slow evaluator alone finds each mistake of a search in two indexes.
+/// The slow evaluator alone finds each mistake of a search in two indexes and of its levels.
 #[test]
 fn slow_finds_mistakes_of_searches() {
-    for k in 71..=99 {
+    for k in (71..=99).chain(105..=130) {
         assert!(searches().any(|case| case.against_slow(&Wrong(k).outcome(&case)).is_some()), "mistake {k}");
+    }
+}
+
+/// The slow evaluator alone finds each mistake in what an ask text says of levels, but a line that is taken too early or too late
+/// or refused.
+#[test]
+fn slow_finds_mistakes_of_level_lines() {
+    for k in (131..=151).filter(|k| ![138, 143, 144].contains(k)) {
+        let mut r = Random(1);
+        let mut cases = (0..100_000).map(|_| generate::case(&mut r)).filter(|case| matches!(case, Case::Query(_)));
+        assert!(cases.any(|case| case.against_slow(&Wrong(k).outcome(&case)).is_some()), "mistake {k}");
     }
 }
 
@@ -501,7 +568,9 @@ fn what_comes_back_is_compared() {
     let written = Case::Write(p.clone(), vec![7; P.len()]);
     let repair = Case::Repair(p.clone(), vec![7; 3]);
     let tighten = Case::Tighten(one_list(&p, &[4, 6]));
-    let wrong: [(_, &dyn Subject); 7] = [
+    let search = Case::search(p.clone(), Index::default(), Query { levels: Levels::Range(1, 254), ..Query::empty() }, vec![7; 6]);
+    let respond = Case::Respond(P.to_vec(), ask_of("(level 1 254)\n"));
+    let wrong: [(_, &dyn Subject); 11] = [
         (read, &Wrong(7)),
         (written, &ReadsWrong),
         (repair.clone(), &ReadsWrong),
@@ -509,6 +578,10 @@ fn what_comes_back_is_compared() {
         (tighten.clone(), &ReadsWrong),
         (tighten.clone(), &Wrong(61)),
         (tighten, &Wrong(14)),
+        (search.clone(), &Wrong(106)),
+        (search, &Wrong(111)),
+        (respond.clone(), &Wrong(152)),
+        (respond, &Wrong(153)),
     ];
     for (case, wrong) in wrong {
         assert_eq!(case.expected(), wrong.outcome(&case));

@@ -1,7 +1,8 @@
 //! Cases of a search in two indexes, random and without chance.
 use crate::case::{parted, Case};
 use crate::generate::{self, damage, damage_index, forest, index, of_tiers, past_limit, query, room_for, FIRST, P, Q, SECOND};
-use crate::paper::{read_plant, Index, Query, Tables, LIMIT};
+use crate::level_cases::handing;
+use crate::paper::{read_plant, Index, Levels, Query, Tables, LIMIT};
 use crate::random::Random;
 
 /// A sound plant with two sound indexes, the second often empty.
@@ -74,12 +75,12 @@ pub fn case(r: &mut Random) -> Case {
     let q = query(r, t.size(), &[t.index(), second.clone()]);
     let room = room_for(r, t.size());
     let filler = r.next() as u16;
-    Case::Search(t, second, q, vec![filler; room])
+    Case::Search(t, second, q, handing(r), vec![filler; room])
 }
 
 /// A search with an empty second index.
 pub fn in_one(t: Tables, q: Query, answer: Vec<u16>) -> Case {
-    Case::Search(t, Index::default(), q, answer)
+    Case::search(t, Index::default(), q, answer)
 }
 
 /// Cases without chance: every three faults, terms on both sides of the limit, a second index with each entry changed and with
@@ -120,7 +121,7 @@ const FAULTS: [Fault; 21] = [
     (15, |(_, second, ..)| second.terms[0] = 32_767),
     (10, |(_, _, q, _)| q.forbidden = vec![1; 9]),
     (11, |(_, _, q, _)| q.required.push(0)),
-    (12, |(_, _, q, _)| q.levels = Some((2, 1))),
+    (12, |(_, _, q, _)| q.levels = Levels::Range(2, 1)),
     (13, |(_, _, q, _)| q.start = 0),
     (14, |(.., answer)| answer.clear()),
 ];
@@ -142,7 +143,7 @@ pub fn faulty() -> impl Iterator<Item = (u32, Lent)> {
 fn faults(cases: &mut Vec<Case>) {
     for (first, (t, second, q, answer)) in faulty() {
         assert_eq!(t.refusal(&second, &q, answer.len()), first);
-        cases.push(Case::Search(t, second, q, answer));
+        cases.push(Case::search(t, second, q, answer));
     }
 }
 
@@ -165,13 +166,13 @@ fn around_the_limit(cases: &mut Vec<Case>) {
     let seconds = of_two([&[4, 8, 10], &[5, 12]]);
     for t in of_two([&[5, 10], &[2, 9]]).iter().map(|first| p.with(first)) {
         for second in &seconds {
-            let mut push = |q: Query| cases.push(Case::Search(t.clone(), second.clone(), q, vec![5; 6]));
+            let mut push = |q: Query| cases.push(Case::search(t.clone(), second.clone(), q, vec![5; 6]));
             if t.refusal(second, &Query::empty(), 6) != 0 {
                 push(Query::empty());
                 continue;
             }
             for (required, forbidden) in sides.iter().flat_map(|a| sides.iter().map(move |b| (a.clone(), b.clone()))) {
-                push(Query { required, forbidden, ..Query::empty() });
+                push(Query { required, forbidden, levels: Levels::Any, ..Query::empty() });
             }
         }
     }
@@ -181,14 +182,14 @@ fn around_the_limit(cases: &mut Vec<Case>) {
 fn damaged_seconds(cases: &mut Vec<Case>) {
     let p = read_plant(P, [6, 6, 6, 2, 2, 3]).unwrap();
     let second = raised(p.index());
-    let q = Query { required: vec![32_775], forbidden: vec![9], ..Query::empty() };
+    let q = Query { required: vec![32_775], forbidden: vec![9], levels: Levels::Any, ..Query::empty() };
     for value in (0..16).chain(32_765..32_780).chain([65_534, 65_535, 65_536, u32::MAX - 1, u32::MAX]) {
         macro_rules! each {
             ($field:ident, $kind:ty) => {
                 for i in 0..second.$field.len() {
                     let mut damaged = second.clone();
                     damaged.$field[i] = value as $kind;
-                    cases.push(Case::Search(p.clone(), damaged, q.clone(), vec![5; 6]));
+                    cases.push(Case::search(p.clone(), damaged, q.clone(), vec![5; 6]));
                 }
             };
         }
@@ -207,8 +208,8 @@ fn short_seconds(cases: &mut Vec<Case>) {
             let length = |table: usize| lengths >> table & 1_usize;
             let second =
                 Index { terms: vec![term; length(0)], starts: vec![value / 3; length(1)], postings: vec![value; length(2)] };
-            let q = Query { required: vec![32_768], ..Query::empty() };
-            cases.push(Case::Search(of_tiers(vec![1; n]), second, q, vec![5; n]));
+            let q = Query { required: vec![32_768], levels: Levels::Any, ..Query::empty() };
+            cases.push(Case::search(of_tiers(vec![1; n]), second, q, vec![5; n]));
         }
     }
 }
@@ -237,7 +238,7 @@ fn large_indexes(cases: &mut Vec<Case>) {
     let with_postings = [(1_048_576, 1_048_576), (1_048_577, 1_048_576), (1_048_576, 1_048_577)].map(|(a, b)| (full(a), full(b)));
     for (first, second) in with_terms.into_iter().chain(with_postings) {
         let q = Query { required: vec![2, 32_770], forbidden: vec![17, 40_960], start: 60_000, ..Query::empty() };
-        cases.push(Case::Search(plant.with(&first), raised(second), q, vec![5; 65_535]));
+        cases.push(Case::search(plant.with(&first), raised(second), q, vec![5; 65_535]));
     }
 }
 

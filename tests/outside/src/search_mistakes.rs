@@ -108,7 +108,7 @@ fn wrongly_refused(mistake: u64, t: &Tables, second: &Index, q: &Query, room: us
     rows.into_iter().find(|&row| row != 0).unwrap_or(0)
 }
 
-/// What is printed with one of the mistakes from 100 on, where that differs.
+/// What is printed with one of the mistakes 100 to 104, where that differs.
 pub fn misresponded(mistake: u64, plant: &[u8], query: &[u8]) -> Option<Vec<u8>> {
     let t = paper::read_plant(plant, paper::ROOM).ok()?;
     let highest = t.terms.last().copied().unwrap_or(0);

@@ -1,6 +1,6 @@
 //! The smallest case found that still differs: parts are left out and numbers made smaller as long as it does.
-use crate::case::Case;
-use crate::paper::{self, Index, Query, Tables};
+use crate::case::{Case, Handing};
+use crate::paper::{self, Index, Levels, Query, Tables};
 use crate::repair_cases::needed;
 use crate::Subject;
 
@@ -30,15 +30,7 @@ fn without_parts<T: Clone>(v: &[T]) -> impl Iterator<Item = Vec<T>> + '_ {
 fn candidates(case: &Case) -> Box<dyn Iterator<Item = Case> + '_> {
     match case {
         Case::Check(t) => Box::new(tables(t).map(Case::Check)),
-        Case::Search(t, second, q, answer) => {
-            let of_both = both(t, second).flat_map(|(smaller, second)| {
-                let shorter = cut(answer, t.size() - smaller.size());
-                [shorter, answer.clone()].map(|answer| Case::Search(smaller.clone(), second.clone(), q.clone(), answer))
-            });
-            let of_queries = queries(q).into_iter().map(|q| Case::Search(t.clone(), second.clone(), q, answer.clone()));
-            let of_answers = without_parts(answer).map(|a| Case::Search(t.clone(), second.clone(), q.clone(), a));
-            Box::new(of_both.chain(of_queries).chain(of_answers))
-        }
+        Case::Search(t, second, q, handing, answer) => Box::new(searches(t, second, q, *handing, answer)),
         Case::Plant(text, room) => {
             let read = paper::read_plant(text, *room).into_iter();
             let written = read.flat_map(|t| [0, 3].map(|spare| Case::Write(t.clone(), vec![b'.'; text.len() + spare])));
@@ -67,6 +59,21 @@ fn candidates(case: &Case) -> Box<dyn Iterator<Item = Case> + '_> {
             Box::new(shorter_plants.chain(texts(query).map(|q| Case::Respond(plant.clone(), q))))
         }
     }
+}
+
+/// A search in smaller tables, for a smaller query, by smaller numbers, or with less room.
+fn searches<'a>(
+    t: &'a Tables, second: &'a Index, q: &'a Query, handing: Handing, answer: &'a [u16],
+) -> impl Iterator<Item = Case> + 'a {
+    let with = move |q: Query, handing: Handing, answer: Vec<u16>| Case::Search(t.clone(), second.clone(), q, handing, answer);
+    let of_both = both(t, second).flat_map(move |(smaller, second)| {
+        let shorter = cut(answer, t.size() - smaller.size());
+        [shorter, answer.to_vec()].map(|answer| Case::Search(smaller.clone(), second.clone(), q.clone(), handing, answer))
+    });
+    let of_queries = queries(q).into_iter().map(move |q| with(q, handing, answer.to_vec()));
+    let of_handings = handings(handing).into_iter().map(move |handing| with(q.clone(), handing, answer.to_vec()));
+    let of_answers = without_parts(answer).map(move |answer| with(q.clone(), handing, answer));
+    of_both.chain(of_queries).chain(of_handings).chain(of_answers)
 }
 
 /// A list without so many entries at its end.
@@ -101,8 +108,8 @@ fn queries(q: &Query) -> Vec<Query> {
     let mut all = vec![];
     all.extend(without_parts(&q.required).map(|required| Query { required, ..q.clone() }));
     all.extend(without_parts(&q.forbidden).map(|forbidden| Query { forbidden, ..q.clone() }));
-    if q.levels.is_some() {
-        all.push(Query { levels: None, ..q.clone() });
+    if let Levels::Range(..) = q.levels {
+        all.extend([Levels::TrueOnly, Levels::Any].map(|levels| Query { levels, ..q.clone() }));
     }
     if q.start > 1 {
         all.push(Query { start: q.start / 2, ..q.clone() });
@@ -113,6 +120,14 @@ fn queries(q: &Query) -> Vec<Query> {
         all.push(Query { budget: q.budget - 1, ..q.clone() });
     }
     all
+}
+
+/// By their own numbers, or by smaller ones.
+fn handings(handing: Handing) -> Vec<Handing> {
+    let Some([range, low, high]) = handing else { return vec![] };
+    let smaller = [[(range / 2).max(2), low, high], [range, low / 2, high], [range, low, high / 2]];
+    let differs = |smaller: &Handing| *smaller != handing;
+    [None].into_iter().chain(smaller.map(Some)).filter(differs).collect()
 }
 
 /// Tables without a term, without a device (what follows is numbered anew), or with one table shorter.

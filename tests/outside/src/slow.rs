@@ -1,6 +1,7 @@
 //! The slow unshared evaluator: what matches, by writing every list out, and what is promised of a run, with no cursor in it; what
 //! is promised of a repair and of a tightening. Two indexes are one with the terms of both.
-use crate::paper::{device_of, Answer, Index, Query, Tables};
+use crate::paper::{device_of, Answer, Index, Levels, Query, Tables};
+use std::ops::RangeInclusive;
 
 /// One index with the terms of the first and, after them, those of the second.
 pub fn joined(t: &Tables, second: &Index) -> Tables {
@@ -41,15 +42,21 @@ fn carried(t: &Tables) -> Vec<Vec<bool>> {
     lists(t).map(|l| carriers_of(t, l)).collect()
 }
 
+/// The level codes that are listed, where 12 does not refuse them: they follow one another.
+pub fn codes(levels: Levels) -> RangeInclusive<u32> {
+    match levels {
+        Levels::Any => 0..=255,
+        Levels::TrueOnly => 1..=254,
+        Levels::Range(low, high) => low.max(1)..=high.min(254),
+    }
+}
+
 pub fn matches(tables: &Tables, query: &Query) -> Vec<bool> {
     let required: Vec<_> = query.required.iter().map(|&t| carriers(tables, t)).collect();
     let forbidden: Vec<_> = query.forbidden.iter().map(|&t| carriers(tables, t)).collect();
+    let codes = codes(query.levels);
     let wanted = |d: usize| {
-        let code = tables.level[d - 1] as u32;
-        d > 0
-            && required.iter().all(|c| c[d])
-            && !forbidden.iter().any(|c| c[d])
-            && query.levels.is_none_or(|(low, high)| (1..=254).contains(&code) && (low..=high).contains(&code))
+        required.iter().all(|c| c[d]) && !forbidden.iter().any(|c| c[d]) && codes.contains(&(tables.level[d - 1] as u32))
     };
     (0..=tables.size()).map(|d| d > 0 && wanted(d)).collect()
 }
@@ -144,7 +151,7 @@ pub fn search_refusal(t: &Tables, second: &Index, q: &Query, room: usize) -> u32
         return 50 + of_second;
     }
     let n = t.size();
-    let (low, high) = q.levels.unwrap_or((1, 254));
+    let (low, high) = if let Levels::Range(low, high) = q.levels { (low, high) } else { (1, 254) };
     let rows = [
         (15, t.terms.iter().any(|term| term / 32_768 == 1) || second.terms.iter().any(|term| term / 32_768 == 0)),
         (10, q.required.len().max(q.forbidden.len()) > 8),
@@ -154,6 +161,24 @@ pub fn search_refusal(t: &Tables, second: &Index, q: &Query, room: usize) -> u32
         (14, room < n),
     ];
     rows.iter().find(|(_, applies)| *applies).map_or(0, |(number, _)| *number)
+}
+
+/// What is handed back of levels where nothing is said: 1 and zeros.
+pub const NO_LEVEL_LINE: [usize; 3] = [1, 0, 0];
+
+/// What an accepted ask text says of levels, as it is handed back; nothing where it has two level lines or one that is no form.
+pub fn level_line(text: &[u8]) -> Option<[usize; 3]> {
+    let text = std::str::from_utf8(text).ok()?;
+    let lines: Vec<&str> = text.split('\n').filter(|line| line.contains("level")).collect();
+    match lines[..] {
+        [] => Some(NO_LEVEL_LINE),
+        ["(level any)"] => Some([0, 0, 0]),
+        [line] => {
+            let (low, high) = line.strip_prefix("(level ")?.strip_suffix(')')?.split_once(' ')?;
+            Some([2, low.parse().ok()?, high.parse().ok()?])
+        }
+        _ => None,
+    }
 }
 
 /// The refusals of a repair with so much room in the report, each posting against each.

@@ -1,6 +1,7 @@
 //! What is held to the paper: the archive, or the paper with a known mistake in it.
-use crate::case::{lent, Case, Outcome};
-use crate::paper::{device_of, Answer, Move, Tables};
+use crate::case::{handed, lent, printed, Case, Outcome};
+use crate::level_mistakes;
+use crate::paper::{device_of, Answer, Levels, Move, Query, Tables};
 use crate::repair::chosen;
 use crate::search_mistakes::{misresponded, missearched};
 use crate::{ffi, Subject};
@@ -11,9 +12,13 @@ impl Subject for Archive {
     fn outcome(&self, case: &Case) -> Outcome {
         match case {
             Case::Check(t) => Outcome::Number(ffi::check(t)),
-            Case::Search(t, second, q, answer) => {
+            Case::Search(t, second, q, handing, answer) => {
                 let mut answer = answer.clone();
-                Outcome::Answer(ffi::search(t, second, q, &mut answer), answer)
+                let got = match handing {
+                    None => ffi::search(t, second, q, &mut answer),
+                    Some(_) => ffi::search_by(t, second, q, handed(q.levels, *handing), &mut answer),
+                };
+                Outcome::Answer(got, answer)
             }
             Case::Plant(text, room) => {
                 let mut t = lent(*room);
@@ -49,24 +54,23 @@ pub struct Wrong(pub u64);
 
 impl Subject for Wrong {
     fn outcome(&self, case: &Case) -> Outcome {
+        if self.0 >= level_mistakes::FIRST {
+            return level_mistakes::outcome(self.0, case);
+        }
         let mut case = case.clone();
         match (self.0, &mut case) {
             // 255 satisfies a window that reaches 254
-            (1, Case::Search(t, _, q, _)) if q.levels.is_some_and(|(_, high)| high == 254) => {
+            (1, Case::Search(t, _, q, ..)) if matches!(q.levels, Levels::Range(_, 254)) => {
                 t.level.iter_mut().filter(|l| **l == 255).for_each(|l| *l = 254);
             }
             // 0 satisfies a window from 1
-            (19, Case::Search(t, _, q, _)) if q.levels.is_some_and(|(low, _)| low == 1) => {
+            (19, Case::Search(t, _, q, ..)) if matches!(q.levels, Levels::Range(1, _)) => {
                 t.level.iter_mut().filter(|l| **l == 0).for_each(|l| *l = 1);
             }
             // a low of 0 is taken
-            (20, Case::Search(_, _, q, _)) if q.levels.is_some_and(|(low, _)| low == 0) => {
-                q.levels = q.levels.map(|(_, high)| (1, high));
-            }
+            (20, Case::Search(_, _, Query { levels: Levels::Range(low @ 0, _), .. }, ..)) => *low = 1,
             // the lowest true level is refused
-            (21, Case::Search(_, _, q, _)) if q.levels.is_some_and(|(low, _)| low == 1) => {
-                q.levels = q.levels.map(|(_, high)| (0, high));
-            }
+            (21, Case::Search(_, _, Query { levels: Levels::Range(low @ 1, _), .. }, ..)) => *low = 0,
             // a device line with level 0 is refused
             (22, Case::Plant(text, _)) => {
                 if let Some(at) = text.windows(7).position(|w| w == b"(dev 0\n") {
@@ -74,7 +78,7 @@ impl Subject for Wrong {
                 }
             }
             // an unknown required term is no condition
-            (2, Case::Search(t, second, q, _)) => {
+            (2, Case::Search(t, second, q, ..)) => {
                 let known = |term: u32| [&t.terms, &second.terms].iter().any(|terms| terms.contains(&(term as u16)));
                 q.required.retain(|&term| !(1..=65_535).contains(&term) || known(term));
             }
@@ -122,7 +126,7 @@ impl Subject for Wrong {
             // the landing counts as passed
             (13, _, outcome) => passing(&case, outcome, |made| made.iter().map(|m| m.to - m.from).sum()),
             // a cursor that stays where it is for a device that is listed counts as passing one
-            (14, Case::Search(_, _, q, _), Outcome::Answer(answer, listing)) => {
+            (14, Case::Search(_, _, q, ..), Outcome::Answer(answer, listing)) => {
                 let stays = answer.count * (q.required.len() + q.forbidden.len()) as u32;
                 Outcome::Answer(Answer { passed: answer.passed + stays, ..answer }, listing)
             }
@@ -147,11 +151,11 @@ impl Subject for Wrong {
                 let (refusal, count, after) = mistightened(self.0, t, (refusal, count, after));
                 Outcome::Tightened(refusal, count, after)
             }
-            (71..=99, Case::Search(t, second, q, lent), Outcome::Answer(answer, listing)) => {
+            (71..=99, Case::Search(t, second, q, _, lent), Outcome::Answer(answer, listing)) => {
                 let (answer, listing) = missearched(self.0, (t, second, q, lent), (answer, listing));
                 Outcome::Answer(answer, listing)
             }
-            (100.., Case::Respond(plant, query), Outcome::Bytes(length, bytes)) => {
+            (100..=104, Case::Respond(plant, query), Outcome::Bytes(length, bytes)) => {
                 misresponded(self.0, plant, query).map_or(Outcome::Bytes(length, bytes), printed)
             }
             (_, _, outcome) => outcome,
@@ -161,7 +165,7 @@ impl Subject for Wrong {
 
 /// How many mistakes there are.
 #[cfg(test)]
-pub const MISTAKES: u64 = 104;
+pub const MISTAKES: u64 = level_mistakes::LAST;
 
 /// A repair: the refusal, how many were dropped and how many there are now, the tables and the report.
 type Repaired = (u32, [usize; 2], Tables, Vec<u32>);
@@ -437,17 +441,10 @@ fn first_tightened(t: &Tables) -> Vec<u32> {
     first.postings
 }
 
-/// These bytes at the front of what is lent to a response.
-fn printed(mut text: Vec<u8>) -> Outcome {
-    let length = text.len();
-    text.resize(16384, 0xee);
-    Outcome::Bytes(length, text)
-}
-
 /// The outcome of a search, where an accepted one counts passed in this way.
 fn passing(case: &Case, outcome: Outcome, passed: impl Fn(&[Move]) -> usize) -> Outcome {
     match (case, outcome) {
-        (Case::Search(t, second, q, _), Outcome::Answer(answer, listing)) if answer.refusal == 0 => {
+        (Case::Search(t, second, q, ..), Outcome::Answer(answer, listing)) if answer.refusal == 0 => {
             Outcome::Answer(Answer { passed: passed(&t.moves(second, q)) as u32, ..answer }, listing)
         }
         (_, outcome) => outcome,
