@@ -24,7 +24,7 @@ use Rattle.steps.specs.Matching.{matches}
 use Rattle.steps.specs.Steps as runs
 use Rattle.steps.specs.Steps.{End, placed, cursors, run}
 use Rattle.steps.proofs.Promises.{lists-exactly, keeps-budget}
-use Rattle.steps.proofs.LevelRule.{ruled, run-ruled}
+use Rattle.steps.proofs.LevelRule.{ruled, unlisted, run-ruled, run-unlisted}
 use Rattle.query.specs.Query.{used, with-levels, wants, any-code}
 use Rattle.query.specs.Refusals.{query-refusal}
 use Rattle.query.specs.declared.Levels.{Levels}
@@ -114,17 +114,18 @@ true-levels : (P : Plant) (list : ℕ → List ℕ) (q : Query) → any-code (q 
     → matches (P .last) list (criteria P q) d ≡ false
 true-levels P list q h d e = let z = untrue (q .levels) (entry (P .level) d) e ∙ h in simp and-no (λ w. z)
 
--- the level rule takes no part in where the steps go: it picks from what they list where any code is wanted
-module _ (P : Plant) (list : ℕ → List ℕ) (q : Query) where
-  ended-ruled : (l : Levels) → ended P list (with-levels q l) (q .budget)
-      ≡ ruled (criteria P (with-levels q l) .ok) (ended P list (with-levels q Levels.Any) (q .budget))
-  unfolding ended
-  ended-ruled l = run-ruled (P .last) (P .root) (size P + 1) (criteria P (with-levels q l) .ok) (size P + 1) (q .budget) (q .start) (cursors list (criteria P q))
+-- the level rule takes no part in where the steps go, and picks from what they list where any code is wanted
+module _ (P : Plant) (list : ℕ → List ℕ) (q : Query) (l : Levels) where
+  abbrev rule : Levels → ℕ → Bool
+  rule m = criteria P (with-levels q m) .ok
 
-  -- by the position, or a count
-  as-any : (f : End → ℕ) → ((ok : ℕ → Bool) (e : End) → f (ruled ok e) ≡ f e) → (l m : Levels)
-      → f (ended P list (with-levels q l) (q .budget)) ≡ f (ended P list (with-levels q m) (q .budget))
-  as-any f h l m = ap f (ended-ruled l) ∙ h _ _ ∙ sym (ap f (ended-ruled m) ∙ h _ _)
+  same-way : unlisted (ended P list q (q .budget)) ≡ unlisted (ended P list (with-levels q l) (q .budget))
+  unfolding ended
+  same-way = run-unlisted (P .last) (P .root) (size P + 1) (rule (q .levels)) (rule l) (size P + 1) (q .budget) (q .start) (cursors list (criteria P q))
+
+  picked : ended P list (with-levels q l) (q .budget) ≡ ruled (rule l) (ended P list (with-levels q Levels.Any) (q .budget))
+  unfolding ended
+  picked = run-ruled (P .last) (P .root) (size P + 1) (rule l) (size P + 1) (q .budget) (q .start) (cursors list (criteria P q))
 
 -- the theorem: all that is promised of an accepted query holds of how its steps end
 pub promised : (P : Plant) (S : Indexes) (q : Query) (room : ℕ) → search-refusal P S q room ≡ 0 → let e = ended P (list-of S) q (q .budget) in
@@ -138,12 +139,8 @@ promised P S q room h =
       true-levels = true-levels P (list-of S) q;
       short = ended P (list-of S) q (q .budget) .short;
       budget = keeps-budget P (a .forest) (list-of S) (λ t. sound-rising (a .list t)) (criteria P q) (k .from-first) (k .to-end) (omega arith) (q .budget);
-      unchanged = λ l. (
-        as-any P (list-of S) q (λ e. e .position) (λ ok e. refl) (q .levels) l,
-        as-any P (list-of S) q (λ e. e .counts .passed) (λ ok e. refl) (q .levels) l,
-        as-any P (list-of S) q (λ e. e .counts .moves) (λ ok e. refl) (q .levels) l,
-      );
-      kept = ap (λ e. e .listed) (ended-ruled P (list-of S) q (q .levels));
+      unchanged = λ l. let w = same-way P (list-of S) q l in (ap (λ e. e .position) w, ap (λ e. e .counts .passed) w, ap (λ e. e .counts .moves) w);
+      kept = ap (λ e. e .listed) (picked P (list-of S) q (q .levels));
     }
 
 -- the theorem on an empty second index

@@ -1,8 +1,8 @@
 -- The level rule decides what a run lists, and nothing else.
 use Prim.Native.Nat.{ℕ, zero, suc, _+_}
-use mathlib.Core.Path.{_≡_, refl, ap}
+use mathlib.Core.Path.{_≡_, refl, sym, ap, _∙_}
 use mathlib.Core.Bool.{Bool, true}
-use mathlib.Core.List.{List}
+use mathlib.Core.List.{List, []}
 use lib.Dec.{ltb}
 use Rattle.laws.proofs.Cases.{split₂}
 use Rattle.steps.specs.Matching.{passing}
@@ -17,6 +17,10 @@ every-device d = true
 abbrev pub ruled : (ℕ → Bool) → End → End
 ruled ok e = record { listed = passing ok (e .listed); position = e .position; counts = e .counts; short = e .short; cursors = e .cursors }
 
+-- and without what it lists
+abbrev pub unlisted : End → End
+unlisted e = record { listed = []; position = e .position; counts = e .counts; short = e .short; cursors = e .cursors }
+
 module _ (last root : List ℕ) (end : ℕ) (ok : ℕ → Bool) where
   -- a run under a rule is the run that lists every device it accepts, of which those that pass are kept
   pub run-ruled : (k n p : ℕ) (cs : List Cursor) → run last root end ok k n p cs ≡ ruled ok (run last root end every-device k n p cs)
@@ -30,3 +34,9 @@ module _ (last root : List ℕ) (end : ℕ) (ok : ℕ → Bool) where
       (λ q f. ap (counted (r .counts)) (run-ruled k _ q (r .cursors)))
       (λ f. refl))
       (λ e. refl)
+
+-- so the position, the counts, whether it is short and where its cursors stand do not depend on the rule
+pub run-unlisted : (last root : List ℕ) (end : ℕ) (ok ok′ : ℕ → Bool) (k n p : ℕ) (cs : List Cursor)
+    → unlisted (run last root end ok k n p cs) ≡ unlisted (run last root end ok′ k n p cs)
+run-unlisted last root end ok ok′ k n p cs =
+    ap unlisted (run-ruled last root end ok k n p cs) ∙ sym (ap unlisted (run-ruled last root end ok′ k n p cs))
