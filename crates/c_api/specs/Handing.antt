@@ -24,7 +24,7 @@ query-of required forbidden levels start budget =
 abbrev pub numbers-of : Answer → List ℕ
 numbers-of a = a .count ∷ a .position ∷ a .passed ∷ a .moves ∷ []
 
--- and handed back as three numbers: 0, 1 or 2, then the low and the high of a range, or zeros
+-- which level codes are wanted, handed back as three numbers: 0, 1 or 2, then the low and the high of a range, or zeros
 abbrev pub level-numbers : Levels → List ℕ
 level-numbers Levels.Any = 0 ∷ 0 ∷ 0 ∷ []
 level-numbers Levels.TrueOnly = 1 ∷ 0 ∷ 0 ∷ []

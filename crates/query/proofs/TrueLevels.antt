@@ -1,4 +1,4 @@
--- True levels and a query: what it makes of other codes, and refusal 12 in the papers' words.
+-- True levels and a query: what it makes of other codes, the widest range, and refusal 12 in the papers' words.
 use Prim.Native.Nat.{ℕ}
 use mathlib.Core.Path.{_≡_, refl, sym}
 use mathlib.Core.Bool.{false, _||_, and-self}

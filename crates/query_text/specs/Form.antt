@@ -5,7 +5,7 @@ use mathlib.Core.List.{List, [], _∷_}
 use lib.Dec.{eqb}
 use Rattle.text.specs.Forms.{Row, row}
 
--- The kinds of line, in the order in which they stand.
+-- The kinds of line, in the order in which they stand. Of the two level lines, a range and any level code, one stands at most.
 abbrev pub open-line : ℕ
 open-line = 2
 

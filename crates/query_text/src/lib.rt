@@ -170,7 +170,7 @@ fn repeats(kind: u32) -> bool
     kind == REQUIRED || kind == FORBIDDEN
 }
 
-// The lowest kind that the line after a line may be of. One of the two level lines follows neither.
+// The lowest kind that the line after a line may be of. No level line follows either of the two.
 fn next_stage(kind: u32) -> u64
     ensures { λ r. ⌜ r ≡ next-stage kind ⌝ }
 {

@@ -24,6 +24,7 @@ module _ (last : List ℕ) (list : ℕ → List ℕ) where
   carried d t = member d (unshared last (list t))
 
   -- "A device matches if it carries every needed mark, no barred one, and, where there is a window, its code is in it."
+  -- Which codes pass is the level rule's: document 02 has more cases than a window.
   abbrev pub matches : Criteria → ℕ → Bool
   matches a d = every (carried d) (a .required) && every (λ t. not (carried d t)) (a .forbidden) && a .ok d
 
