@@ -66,7 +66,7 @@ uint32_t plant_search_search(
     uint16_t *answer, size_t answer_length,
     uint32_t numbers[4]);
 
-/* Reads plant text into six tables: the refusal, 20 to 29, or 0.
+/* Reads plant text into six tables: the refusal, 20 to 25 or 27 to 29, or 0.
  *
  * numbers: the line of the refusal or 0, then the numbers of devices, terms and postings.
  * Every entry beyond those is set to 0. After a refusal every entry of every table is 0, and so are the three numbers. */

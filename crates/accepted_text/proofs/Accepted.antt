@@ -19,10 +19,11 @@ use Rattle.index.proofs.Lists.{device-of}
 use Rattle.index.proofs.Growing.{accepted-none, accepted-open, accepted-add}
 use Rattle.text.specs.Lines.{lines}
 use Rattle.text.specs.Forms.{form, plain, unfinished}
-use Rattle.text.specs.Reading.{Read, made, no, unless, and-then, read-lines, line-of, end-of}
+use Rattle.text.specs.Reading.{Read, made, unless, and-then, read-lines, line-of, end-of}
 use Rattle.text.specs.declared.Form.{Form}
+use Rattle.text.proofs.Reading.{not-made}
 use Rattle.plant_text.specs.Form.{plant-line, device-line, term-line, own-line, all-line, close-line, rows}
-use Rattle.plant_text.specs.PlantText.{Stage, start, devices, terms, postings, closed, State, nothing, rank, is, stands, misplaced, unopened, out-of-range, too-deep, no-place, not-rising, is-redundant, line-refusal, add-posting, next, step, longest-text, read-plant, room, kept}
+use Rattle.plant_text.specs.PlantText.{Stage, start, devices, terms, postings, closed, State, nothing, rank, is, stands, misplaced, out-of-range, too-deep, no-place, not-rising, is-redundant, line-refusal, add-posting, next, step, longest-text, read-plant, room, kept}
 use Rattle.plant_text.specs.declared.Room.{Room}
 use Rattle.accepted_text.proofs.Devices.{Growing, growing-none, growing-open, growing-close, growing-end}
 
@@ -54,8 +55,7 @@ passed r m f h =
     let r25 = pick-none (is closed m) 24 _ h in
     let r24 = pick-none (eqb (f .kind) unfinished) 23 _ (r25 .1) in
     let r21 = pick-none (misplaced m f) 20 _ (r24 .1) in
-    let r26 = pick-none (unopened m f) 25 _ (r21 .1) in
-    let r22 = pick-none (out-of-range m f) 21 _ (r26 .1) in
+    let r22 = pick-none (out-of-range m f) 21 _ (r21 .1) in
     let r23 = pick-none (too-deep m f) 22 _ (r22 .1) in
     let r27 = pick-none (no-place r m f) 26 _ (r23 .1) in
     let r28 = pick-none (not-rising m f) 27 _ (r27 .1) in
@@ -166,13 +166,6 @@ module _ (r : Room) (w : Within r) where
   taken closed ds P I h f = λ p. absurd (true≢false (p .unclosed))
 
 -- ---- line by line
-
-pub not-made : {X : Type 0} (x k : ℕ) (m : State) → no x k ≡ made m → X
-not-made x k m h = absurd (true≢false (sym (ap is-made h)))
-  where
-    is-made : Read State → Bool
-    is-made (made s) = true
-    is-made (no x k) = false
 
 -- what is made by a line that may be refused
 pub unless-made : (x : ℕ) (s : State) (k : ℕ) (f : State → Read State) (m : State) → and-then (unless x s) k f ≡ made m → (x ≡ 0) × (f s ≡ made m)

@@ -46,6 +46,11 @@ pick-past false n rest u h = (refl, h)
 pub pick-none : (b : Bool) (n rest : ℕ) → pick b (suc n) rest ≡ 0 → (b ≡ false) × (rest ≡ 0)
 pick-none b n rest = pick-past b (suc n) rest (omega arith)
 
+-- a number that no row of a table has is not what it comes to
+pub pick-other : (b : Bool) {n rest x : ℕ} → (n ≡ x → ⊥) → (rest ≡ x → ⊥) → pick b n rest ≡ x → ⊥
+pick-other true f g e = f e
+pick-other false f g e = g e
+
 -- a row of two tests
 pub pick-or : (a b : Bool) (n m : ℕ) → pick (a || b) n m ≡ pick a n (pick b n m)
 pick-or true b n m = refl

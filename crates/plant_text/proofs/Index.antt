@@ -23,13 +23,13 @@ use Rattle.text.specs.declared.Form.{Form}
 use Rattle.text.specs.declared.Found.{Found}
 use Rattle.plant_text.specs.Form.{term-line, close-line, rows}
 use Rattle.plant_text.specs.PlantText.{State, terms, postings, line-refusal, next}
-use Rattle.plant_text.specs.inner.Rest.{with-number, highest-known, line-after, end-refusal}
+use Rattle.plant_text.specs.inner.Rest.{with-number, highest-known, line-after, kind-refusal}
 use Rattle.plant_text.specs.inner.Terms.{Before, SamePosts, PostsStart, PostsAt, PostsRead, posts-result, from-posting, terms-made, OpensTerm, SameTerms, at-term, TermsAt, ClosedAt, TermsStart, none-at}
 use Rattle.plant_text.specs.declared.Room.{Room}
 use Rattle.plant_text.specs.declared.lines.Place.{Place}
 use Rattle.plant_text.specs.declared.lines.Ending.{Ending}
 use Rattle.plant_text.specs.declared.lines.Ending.the-variants as ending
-use Rattle.plant_text.proofs.Reading.{past-at, form-refused, form-taken, reading-form, found-from, next-line, past-line, at-kind, is-closing, not-ended}
+use Rattle.plant_text.proofs.Reading.{past-at, form-refused, form-taken, reading-form, found-from, next-line, past-line, at-kind, is-due, not-due}
 use Rattle.index.proofs.Growing.{empty-entry}
 
 -- the newest term, or 0
@@ -92,13 +92,13 @@ terms-start b = record {
 
 module _ {r : Room} {t last T S L : List ℕ} {count n : ℕ} {p : Place} {A : plants.Plant → Read State} {f : Form}
     (e : TermsAt r t last count A (index T S L) f n p) where
-  module _ (w : f .kind ≡ term-line → ⊥) {y : ℕ} (u : y ≡ end-refusal 1 (f .kind)) where
+  module _ (w : f .kind ≡ term-line → ⊥) {y : ℕ} (u : y ≡ kind-refusal close-line (f .kind)) where
     pub terms-refused : (y ≡ 0 → ⊥) → SameTerms last count A (λ P. no y (p .line))
     terms-refused h = record {
       same = λ P g.
           e .reads .same P g
           ∙ form-refused r (terms-made P (index T S L) n (p .count) terms) (p .line) (drop (p .at) t) f y
-          (not-ended r (terms-made P (index T S L) n (p .count) terms) f 1 refl (λ i. omega arith) (λ z. h (u ∙ z)) (λ c. rw (ne-eqb (f .kind) term-line w, c)) ∙ sym u) h;
+          (not-due r (terms-made P (index T S L) n (p .count) terms) f close-line refl (λ i. omega arith) (λ z. h (u ∙ z)) (λ c. rw (ne-eqb (f .kind) term-line w, c)) ∙ sym u) h;
     }
 
     pub terms-closed : y ≡ 0 → ClosedAt r t last count A (index T S L) n (line-after p (p .at))
@@ -107,7 +107,7 @@ module _ {r : Room} {t last T S L : List ℕ} {count n : ℕ} {p : Place} {A : p
       reads = record {
         same = λ P g.
             e .reads .same P g
-            ∙ at-kind r (terms-made P (index T S L) n (p .count) terms) (p .line) (drop (p .at) t) f (is-closing 1 (f .kind) (sym u ∙ z))
+            ∙ at-kind r (terms-made P (index T S L) n (p .count) terms) (p .line) (drop (p .at) t) f (is-due close-line (f .kind) (sym u ∙ z))
             ∙ form-taken r (terms-made P (index T S L) n (p .count) terms) (p .line) (drop (p .at) t) (with-number close-line (f .number)) refl refl;
       };
       fits = e .fits;

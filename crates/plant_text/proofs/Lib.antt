@@ -6,3 +6,4 @@ mod Posts
 mod Index
 mod Whole
 pub mod Example
+pub mod Row26

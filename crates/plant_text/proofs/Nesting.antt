@@ -1,5 +1,5 @@
 -- Laws of the readers of devices: what reading comes to before and after each step.
-use Prim.Native.Nat.{ℕ, suc, _+_, _-_, _<_, _≤_}
+use Prim.Native.Nat.{ℕ, _+_, _-_, _<_, _≤_}
 use mathlib.Core.Path.{_≡_, refl, sym, _∙_, subst}
 use mathlib.Core.Bool.{cond, false}
 use mathlib.Core.List.{List, _∷_}
@@ -20,7 +20,7 @@ use Rattle.text.specs.declared.Form.{Form}
 use Rattle.text.specs.declared.Found.{Found}
 use Rattle.plant_text.specs.Form.{device-line, close-line, rows}
 use Rattle.plant_text.specs.PlantText.{State, devices, stands, outermost, line-refusal, next}
-use Rattle.plant_text.specs.inner.Rest.{with-number, highest-known, line-after, end-refusal}
+use Rattle.plant_text.specs.inner.Rest.{with-number, highest-known, line-after, kind-refusal}
 use Rattle.plant_text.specs.inner.Common.{Closes}
 use Rattle.plant_text.specs.inner.Devices.{devices-made, Stack, opened-at, closed-at, from-device, at-form, Same, ListStart, DeviceStart, DevicesAt, Stops, DeviceRead, device-result, ListRead, list-result}
 use Rattle.plant_text.specs.declared.Room.{Room}
@@ -29,7 +29,7 @@ use Rattle.plant_text.specs.declared.lines.Ending.{Ending}
 use Rattle.plant_text.specs.declared.lines.Ending.the-variants as ending
 use Rattle.plant_text.specs.declared.devices.Listed.{Listed}
 use Rattle.plant_text.specs.declared.devices.Listed.the-variants as listed
-use Rattle.plant_text.proofs.Reading.{past-at, more-at, form-refused, form-taken, reading-form, found-from, found-moves, next-line, past-line, at-kind, is-closing, not-ended}
+use Rattle.plant_text.proofs.Reading.{past-at, more-at, form-refused, form-taken, reading-form, found-from, found-moves, next-line, past-line, at-kind, is-due, not-due}
 
 module _ {depth top : ℕ} where
   same-trans : {a b c : List ℕ → Read State} → Same depth top a b → Same depth top b c → Same depth top a c
@@ -94,7 +94,7 @@ module _ {r : Room} {t : List ℕ} {T : plants.Plant} {depth top : ℕ} {since p
 module _ (r : Room) (T : plants.Plant) (c d n : ℕ) (h : d < c) (l : c ≤ length (T .last)) (stack : List ℕ) where
   close-refusal : line-refusal r (devices-made T c ((d + 1) ∷ stack)) (with-number close-line n) ≡ 0
   unfolding line-refusal
-  close-refusal = rw (ne-eqb (suc (suc (length stack))) 0 (omega arith))
+  close-refusal = refl
 
   close-next : next (devices-made T c ((d + 1) ∷ stack)) (with-number close-line n) ≡ devices-made (closed-at T d c) c stack
   unfolding next
@@ -170,13 +170,13 @@ module _ {r : Room} {T : plants.Plant} (t : List ℕ) (p : Place) (depth top n :
         stopped : Stops r t (depth + 1) out (from-device r t T₁ (more-at p (p .at))) (more-at p (p .at)) T₂ f stop
         stopped = subst (list-result r t T₁ (more-at p (p .at)) (depth + 1) out T₂) g (d .result)
 
-        module _ {v : ℕ} (w : v ≡ end-refusal (depth + 2) (f .kind)) where
+        module _ {v : ℕ} (w : v ≡ kind-refusal close-line (f .kind)) where
           pub device-open : {T′ : plants.Plant} → (v ≡ 0 → ⊥) → DeviceRead r t T n p depth top T′ (ending.Refused v (stop .line))
           device-open h = record {
             result = same-trans (enter (stopped .reads)) (record {
               same = λ stack st.
                   form-refused r (devices-made T₂ (stop .count) ((p .count + 1) ∷ stack)) (stop .line) (drop (stop .at) t) f v
-                  (not-ended r (devices-made T₂ (stop .count) ((p .count + 1) ∷ stack)) f (depth + 2) refl (λ i. omega arith) (λ i. h (w ∙ i))
+                  (not-due r (devices-made T₂ (stop .count) ((p .count + 1) ∷ stack)) f close-line refl (λ i. omega arith) (λ i. h (w ∙ i))
                   (stands-open (p .count + 1) stack (f .kind) (stopped .no-device)) ∙ sym w) h;
             });
           }
@@ -190,7 +190,7 @@ module _ {r : Room} {T : plants.Plant} (t : List ℕ) (p : Place) (depth top n :
           module _ (u : v ≡ 0) {L : List ℕ} (k : L ≡ set (T₂ .last) (p .count) (stop .count)) {after : Place} (j : after ≡ line-after stop (stop .at)) where
             pub device-ended : DeviceRead r t T n p depth top (plants.plant L (T₂ .root) (T₂ .level)) (ending.Ended after)
             device-ended =
-                let c = is-closing (depth + 2) (f .kind) (sym w ∙ u) in
+                let c = is-due close-line (f .kind) (sym w ∙ u) in
                 let a = stopped .start in
                 let i : p .count < stop .count = omega (arith, stopped .more) in
                 let m : stop .count ≤ length (T₂ .last) = omega (arith, a .holds, a .fits .last) in
@@ -221,17 +221,14 @@ module _ {r : Room} {T : plants.Plant} (t : List ℕ) (p : Place) (depth top n :
       leaf-list : ListRead r t T₁ (more-at p (p .at)) (depth + 1) out T₁ (listed.Stopped (plain close-line) leaf-stop)
       leaf-list = record { result = list-stop (list-start inside-start) (c .found y) (λ e. omega arith) }
 
-      leaf-closes : 0 ≡ end-refusal (depth + 2) close-line
-      leaf-closes = rw (ne-eqb (depth + 2) 0 (omega arith))
-
       -- the facts that the code asks
       pub leaf-ready : (p .count < length (T₁ .last)) × (p .count + 1 ≤ 65535) × (p .line + 1 ≤ 65537)
-      leaf-ready = close-ready leaf-list refl leaf-closes
+      leaf-ready = close-ready leaf-list refl refl
 
       pub leaf-ended : DeviceRead r t T n p depth top (closed-at T₁ (p .count) (p .count + 1)) (ending.Ended (record { at = next; line = p .line + 2; count = p .count + 1 }))
       leaf-ended =
           let l : p .line + 1 + 1 ≡ p .line + 2 = omega arith in
-          rw (← l) (device-ended leaf-list refl leaf-closes refl refl refl)
+          rw (← l) (device-ended leaf-list refl refl refl refl refl)
 
 -- each table is as long as it was
 pub record PlantSizes (T₀ T : plants.Plant) : Type 0 where

@@ -24,11 +24,11 @@ use Rattle.text.specs.Reading.{Read, no}
 use Rattle.text.specs.declared.Found.{Found}
 use Rattle.plant_text.specs.Form.{all-line, close-line, rows, is-posting}
 use Rattle.plant_text.specs.PlantText.{State, postings, terms, current, add-posting, line-refusal, next}
-use Rattle.plant_text.specs.inner.Rest.{from-form, with-number, highest-known, line-after, ReadingAt, end-refusal}
+use Rattle.plant_text.specs.inner.Rest.{from-form, with-number, highest-known, line-after, ReadingAt, kind-refusal}
 use Rattle.plant_text.specs.inner.Terms.{Before, posts-made, Adds, from-posting, SamePosts, PostsStart, PostsAt}
 use Rattle.plant_text.specs.declared.Room.{Room}
 use Rattle.plant_text.specs.declared.lines.Place.{Place}
-use Rattle.plant_text.proofs.Reading.{more-at, form-refused, form-taken, reading-form, found-moves, next-line, past-line, at-kind, posting-kinds, is-closing, not-ended}
+use Rattle.plant_text.proofs.Reading.{more-at, form-refused, form-taken, reading-form, found-moves, next-line, past-line, at-kind, posting-kinds, is-due, not-due}
 use Rattle.index.proofs.Lists.{device-of}
 use Rattle.index.proofs.Growing.{empty-entry, sound-none, newest-entry, shadowed-newest, sound-more}
 
@@ -186,18 +186,18 @@ module _ {r : Room} {t last posts : List ℕ} {count begin since : ℕ} {p : Pla
       let s = next-line t (p .at) x (e .start .at-line) in
       record { fits = s .fits; within = s .within; lined = omega (arith, past-line t (p .at) x (e .start .at-line) h) }
 
-  module _ (w : not v ≡ true) {y : ℕ} (u : y ≡ end-refusal 2 (g .form .kind)) where
+  module _ (w : not v ≡ true) {y : ℕ} (u : y ≡ kind-refusal close-line (g .form .kind)) where
     pub posts-refused : (y ≡ 0 → ⊥) → SamePosts last count begin A (λ m. no y (p .line))
     posts-refused h = record {
       same = λ m b.
           up-to-line .same m b
           ∙ form-refused r (posts-made m posts (p .count) postings) (p .line) (drop (g .next) t) (g .form) y
-          (not-ended r (posts-made m posts (p .count) postings) (g .form) 2 refl (λ i. omega arith) (λ z. h (u ∙ z)) (λ c. rw (← q, not-yes v .0 w, c)) ∙ sym u) h;
+          (not-due r (posts-made m posts (p .count) postings) (g .form) close-line refl (λ i. omega arith) (λ z. h (u ∙ z)) (λ c. rw (← q, not-yes v .0 w, c)) ∙ sym u) h;
     }
 
     module _ (z : y ≡ 0) where
       closes : g .form .kind ≡ close-line
-      closes = is-closing 2 (g .form .kind) (sym u ∙ z)
+      closes = is-due close-line (g .form .kind) (sym u ∙ z)
 
       pub posts-ended : PostsAt r t last count begin A (since + 1) terms posts (line-after p (g .next))
       unfolding line-refusal next

@@ -4,7 +4,7 @@ use mathlib.Core.Path.{_≡_, refl, sym, ap, _∙_, subst}
 use mathlib.Core.Bool.{Bool, true, false, cond, not, true≢false}
 use mathlib.Core.List.{List}
 use native.Mathlib.Omega.{arith}
-use borrow.Author.Tests.{lt-ltb, ne-eqb, eqb-true}
+use borrow.Author.Tests.{lt-ltb, ne-eqb, eq-eqb, eqb-true}
 use lib.Dec.{eqb}
 use lib.ListN.{length, drop}
 use Rattle.laws.specs.Rows.{pick}
@@ -24,9 +24,9 @@ use Rattle.text.proofs.Lines.{next-within, next-onward, next-from}
 use Rattle.text.proofs.Forms.{whole-kind}
 use Rattle.text.proofs.Reading as texts
 use Rattle.text.proofs.Reading.{Refuses}
-use Rattle.plant_text.specs.Form.{plant-line, device-line, term-line, own-line, all-line, close-line, rows, is-posting, numbered}
-use Rattle.plant_text.specs.PlantText.{State, is, closed, stands, misplaced, unopened, out-of-range, line-refusal, next, step}
-use Rattle.plant_text.specs.inner.Rest.{from, from-form, with-number, highest-known, ReadingAt, end-refusal}
+use Rattle.plant_text.specs.Form.{plant-line, device-line, term-line, own-line, all-line, rows, is-posting, numbered}
+use Rattle.plant_text.specs.PlantText.{State, is, closed, stands, misplaced, out-of-range, line-refusal, next, step}
+use Rattle.plant_text.specs.inner.Rest.{from, from-form, with-number, highest-known, ReadingAt, kind-refusal}
 use Rattle.plant_text.specs.declared.Room.{Room}
 use Rattle.plant_text.specs.declared.lines.Place.{Place}
 
@@ -77,19 +77,17 @@ module _ (kind : ℕ) where
 -- a number above 65,535 is refused as 65,536 is
 module _ (r : Room) (m : State) (z : size (m .plant) ≤ highest-known) (kind : ℕ) where
   -- whatever rows come after 22
-  by-22 : (a b c d e : Bool) (x : ℕ) (m′ : State) → e ≡ true
-      → unless (pick a 25 (pick b 24 (pick c 21 (pick d 26 (pick e 22 x))))) m′ ≡ refused (pick a 25 (pick b 24 (pick c 21 (pick d 26 22))))
-  by-22 true b c d e x m′ q = refl
-  by-22 false true c d e x m′ q = refl
-  by-22 false false true d e x m′ q = refl
-  by-22 false false false true e x m′ q = refl
-  by-22 false false false false e x m′ q = rw q
+  by-22 : (a b c d : Bool) (x : ℕ) (m′ : State) → d ≡ true → unless (pick a 25 (pick b 24 (pick c 21 (pick d 22 x)))) m′ ≡ refused (pick a 25 (pick b 24 (pick c 21 22)))
+  by-22 true b c d x m′ q = refl
+  by-22 false true c d x m′ q = refl
+  by-22 false false true d x m′ q = refl
+  by-22 false false false d x m′ q = rw q
 
   high : numbered true true true kind ≡ true → (n : ℕ) → highest-known < n → step r m (with-number kind n)
-      ≡ refused (pick (is closed m) 25 (pick (eqb kind unfinished) 24 (pick (misplaced m (with-number kind 0)) 21 (pick (unopened m (with-number kind 0)) 26 22))))
+      ≡ refused (pick (is closed m) 25 (pick (eqb kind unfinished) 24 (pick (misplaced m (with-number kind 0)) 21 22)))
   unfolding line-refusal
   high e n h =
-      by-22 (is closed m) (eqb kind unfinished) (misplaced m (with-number kind n)) (unopened m (with-number kind n)) (out-of-range m (with-number kind n)) _ _
+      by-22 (is closed m) (eqb kind unfinished) (misplaced m (with-number kind n)) (out-of-range m (with-number kind n)) _ _
       (same-tests kind (lt-ltb 255 n (omega arith)) (rw (ne-eqb n 0 (omega arith), lt-ltb 65535 n h)) (rw (ne-eqb n 0 (omega arith), lt-ltb (size (m .plant)) n (omega arith))) ∙ e)
 
   -- a line of another kind has no number
@@ -144,8 +142,8 @@ posting-kinds F k e a b =
     either (eqb k own-line) (λ p. subst F (sym (eqb-true k own-line p)) a)
     (λ p. let q : eqb k all-line ≡ true = rw p at e in subst F (sym (eqb-true k all-line q)) b)
 
--- the end of what is open
-pub refused-by : (a b : Bool) (x : ℕ) → b ≡ true → pick a 24 (pick b 21 x) ≡ pick a 24 21
+-- where only one kind of line may stand
+refused-by : (a b : Bool) (x : ℕ) → b ≡ true → pick a 24 (pick b 21 x) ≡ pick a 24 21
 refused-by true b x e = refl
 refused-by false b x e = rw e
 
@@ -154,19 +152,19 @@ pub not-standing : (r : Room) (m : State) (f : Form) → is closed m ≡ false �
 unfolding line-refusal
 not-standing r m f o e = rw o (refused-by (eqb (f .kind) unfinished) (misplaced m f) _ (rw e))
 
-module _ (b kind : ℕ) where
-  pub is-closing : end-refusal b kind ≡ 0 → kind ≡ close-line
-  is-closing e =
+module _ (due kind : ℕ) where
+  pub is-due : kind-refusal due kind ≡ 0 → kind ≡ due
+  is-due e =
       let a = pick-none (eqb kind unfinished) 23 _ e in
-      let c = pick-none (not (eqb kind close-line)) 20 _ (a .1) in
-      eqb-true kind close-line (not-no (eqb kind close-line) .0 (c .0))
+      let b = pick-none (not (eqb kind due)) 20 _ (a .1) in
+      eqb-true kind due (not-no (eqb kind due) .0 (b .0))
 
-  not-closing : (b ≡ 0 → ⊥) → (end-refusal b kind ≡ 0 → ⊥) → eqb kind close-line ≡ false
-  not-closing n h = refuted (eqb kind close-line) (λ t. let z : kind ≡ close-line = eqb-true kind close-line t in h (rw (z, ne-eqb b 0 n)))
+  another : (due ≡ unfinished → ⊥) → (kind-refusal due kind ≡ 0 → ⊥) → eqb kind due ≡ false
+  another n h = refuted (eqb kind due) (λ t. let z : kind ≡ due = eqb-true kind due t in h (rw (z, ne-eqb due unfinished n, eq-eqb due due refl)))
 
--- a line that does not end what is open, and that can't stand there unless it does
-pub not-ended : (r : Room) (m : State) (f : Form) (b : ℕ) → is closed m ≡ false → (b ≡ 0 → ⊥) → (end-refusal b (f .kind) ≡ 0 → ⊥) →
-    (eqb (f .kind) close-line ≡ false → stands (m .stage) (m .opened) (f .kind) ≡ false) → line-refusal r m f ≡ end-refusal b (f .kind)
-not-ended r m f b o n h e =
-    let c = not-closing b (f .kind) n h in
-    not-standing r m f o (e c) ∙ sym (refused-by (eqb (f .kind) unfinished) (not (eqb (f .kind) close-line)) _ (rw c))
+-- a line that is not of the kind that is due, where no other may stand
+pub not-due : (r : Room) (m : State) (f : Form) (due : ℕ) → is closed m ≡ false → (due ≡ unfinished → ⊥) → (kind-refusal due (f .kind) ≡ 0 → ⊥) →
+    (eqb (f .kind) due ≡ false → stands (m .stage) (m .opened) (f .kind) ≡ false) → line-refusal r m f ≡ kind-refusal due (f .kind)
+not-due r m f due o n h e =
+    let c = another due (f .kind) n h in
+    not-standing r m f o (e c) ∙ sym (refused-by (eqb (f .kind) unfinished) (not (eqb (f .kind) due)) _ (rw c))

@@ -1,7 +1,7 @@
 -- Laws of the reader of a whole text.
 use Prim.Native.Nat.{ℕ, _-_, _<_, _≤_}
 use mathlib.Core.Path.{_≡_, refl, sym, ap, _∙_, subst}
-use mathlib.Core.Bool.{Bool, true, false, not}
+use mathlib.Core.Bool.{Bool, true, false}
 use mathlib.Core.List.{List, [], _++_}
 use native.Mathlib.Omega.{arith}
 use borrow.Author.Tests.{lt-ltb, le-ltb, ne-eqb, eq-eqb, eqb-true}
@@ -11,8 +11,6 @@ use lib.Seq.{length-take-le}
 use Rattle.laws.specs.Lent.{filled}
 use Rattle.laws.specs.Rows.{pick}
 use Rattle.laws.proofs.Cases.{either}
-use Rattle.laws.proofs.Rows.{pick-none}
-use Rattle.laws.proofs.Tests.{refuted, not-no}
 use Rattle.plant.specs.Plant as plants
 use Rattle.plant.specs.Plant.{plant}
 use Rattle.index.specs.Index as indexes
@@ -25,7 +23,7 @@ use Rattle.text.specs.declared.Found.{Found}
 use Rattle.text.proofs.Reading as texts
 use Rattle.plant_text.specs.Form.{plant-line, device-line, term-line, close-line, rows}
 use Rattle.plant_text.specs.PlantText.{State, nothing, is, terms, closed, line-refusal, next, step, read-plant, room, outcome-of, outcome-number, outcome-values, read-number, read-values, kept, outcome-after, plant-after, index-after}
-use Rattle.plant_text.specs.inner.Rest.{from, from-form, with-number, highest-known, Bounded, ReadingAt, start-refusal}
+use Rattle.plant_text.specs.inner.Rest.{from, from-form, with-number, highest-known, Bounded, ReadingAt, kind-refusal}
 use Rattle.plant_text.specs.inner.Devices.{Fits, front, Same, ListStart, Stops, ListRead, list-result, devices-made, from-device}
 use Rattle.plant_text.specs.inner.Terms.{FitsIndex, terms-made, SameTerms, ClosedAt, at-term, none-at, TermsStart, TermsRead, terms-result}
 use Rattle.plant_text.specs.inner.Whole.{says, ReadAll}
@@ -37,19 +35,7 @@ use Rattle.plant_text.specs.declared.terms.Closing.{Closing}
 use Rattle.plant_text.specs.declared.terms.Closing.the-variants as closing
 use Rattle.plant_text.specs.declared.Outcome.{Outcome}
 use Rattle.plant_text.specs.declared.Outcome.the-variants as outcome
-use Rattle.plant_text.proofs.Reading.{form-refused, form-taken, unfinished-refused, reading-form, next-line, past-line, at-kind, refused-by, not-standing}
-
--- the plant line
-is-plant : (kind : ℕ) → start-refusal kind ≡ 0 → kind ≡ plant-line
-is-plant kind e =
-    let a = pick-none (eqb kind unfinished) 23 _ e in
-    let b = pick-none (not (eqb kind plant-line)) 20 _ (a .1) in
-    eqb-true kind plant-line (not-no (eqb kind plant-line) .0 (b .0))
-
-not-plant : (r : Room) (f : Form) → (start-refusal (f .kind) ≡ 0 → ⊥) → line-refusal r nothing f ≡ start-refusal (f .kind)
-not-plant r f h =
-    let c = refuted (eqb (f .kind) plant-line) (λ t. let z : f .kind ≡ plant-line = eqb-true (f .kind) plant-line t in h (rw z)) in
-    not-standing r nothing f refl c ∙ sym (refused-by (eqb (f .kind) unfinished) (not (eqb (f .kind) plant-line)) _ (rw c))
+use Rattle.plant_text.proofs.Reading.{form-refused, form-taken, unfinished-refused, reading-form, next-line, past-line, at-kind, not-standing, is-due, not-due}
 
 -- with no device open, a line among the devices that is no device's does what it does between terms
 module _ (r : Room) (T : plants.Plant) (X : indexes.Index) (d k : ℕ) (s : List ℕ) (f : Form) where
@@ -96,17 +82,17 @@ all-20 {r} {t} h = all-refused (rw (lt-ltb 65536 (length t) h))
 abbrev begun : ℕ → Place
 begun at = record { at = at; line = 2; count = 0 }
 
-module _ (t : List ℕ) {g : Found} {x : ℕ} (r : Room) (h : length t ≤ 65536) (e : g ≡ found-at highest-known rows t 0) (q : x ≡ start-refusal (g .form .kind)) where
+module _ (t : List ℕ) {g : Found} {x : ℕ} (r : Room) (h : length t ≤ 65536) (e : g ≡ found-at highest-known rows t 0) (q : x ≡ kind-refusal plant-line (g .form .kind)) where
   first : read-plant r t ≡ from-form r nothing (g .form) 1 (drop (g .next) t)
   unfolding read-plant
   first = rw (le-ltb 65536 (length t) h) (reading-form t 0 e r nothing 1 (omega arith) refl)
 
   pub all-start : {T : plants.Plant} {X : indexes.Index} → (x ≡ 0 → ⊥) → ReadAll r t T X (outcome.Refused x 1)
-  all-start n = all-refused (first ∙ form-refused r nothing 1 (drop (g .next) t) (g .form) x (not-plant r (g .form) (λ z. n (q ∙ z)) ∙ sym q) n)
+  all-start n = all-refused (first ∙ form-refused r nothing 1 (drop (g .next) t) (g .form) x (not-due r nothing (g .form) plant-line refl (λ i. omega arith) (λ z. n (q ∙ z)) (λ c. c) ∙ sym q) n)
 
   module _ (u : x ≡ 0) where
     opens : g .form .kind ≡ plant-line
-    opens = is-plant (g .form .kind) (sym q ∙ u)
+    opens = is-due plant-line (g .form .kind) (sym q ∙ u)
 
     start : ReadingAt t 0 1
     start = record { fits = h; within = omega arith; lined = omega arith }

@@ -1,5 +1,6 @@
--- Plant text, read line by line: what it makes, and document 01's rows 20 to 29.
-use Prim.Native.Nat.{ℕ, suc, _+_, _-_, min}
+-- Plant text, read line by line: what it makes, and document 01's rows 20 to 29 without 26, which no text gave (document 02, §13;
+-- proofs/Row26.antt).
+use Prim.Native.Nat.{ℕ, _+_, _-_, min}
 use mathlib.Core.Bool.{Bool, true, false, cond, _&&_, _||_, not}
 use mathlib.Core.List.{List, [], _∷_, _++_}
 use lib.Dec.{leb, ltb, eqb}
@@ -60,33 +61,21 @@ abbrev pub empty : List ℕ → Bool
 empty [] = true
 empty (x ∷ xs) = false
 
--- the number of open brackets: the plant's, and those of the open devices or of the term
-abbrev pub brackets : Stage → List ℕ → ℕ
-brackets start ds = 0
-brackets devices ds = suc (length ds)
-brackets terms ds = 1
-brackets postings ds = 2
-brackets closed ds = 0
-
 -- the postings of the newest term
 abbrev pub current : State → List ℕ
 current m = list (m .index) (count (m .index))
 
 -- 21: "not a form, or a form that can't stand here": the kinds of line that may stand at a stage, where those devices are open; a closing
--- bracket can't be the first line
+-- bracket can't be the first line, and after the closing line nothing stands
 abbrev pub stands : Stage → List ℕ → ℕ → Bool
 stands start ds kind = eqb kind plant-line
 stands devices ds kind = eqb kind device-line || (eqb kind term-line && empty ds) || eqb kind close-line
 stands terms ds kind = eqb kind term-line || eqb kind close-line
 stands postings ds kind = is-posting kind || eqb kind close-line
-stands closed ds kind = eqb kind close-line
+stands closed ds kind = false
 
 abbrev pub misplaced : State → Form → Bool
 misplaced m f = not (stands (m .stage) (m .opened) (f .kind))
-
--- 26: "a closing bracket with nothing open"
-abbrev pub unopened : State → Form → Bool
-unopened m f = eqb (f .kind) close-line && eqb (brackets (m .stage) (m .opened)) 0
 
 -- 22: "level over 255, mark outside 1..65,535, posting device outside 1..N"
 abbrev pub out-of-range : State → Form → Bool
@@ -120,13 +109,12 @@ line-refusal r m f =
     pick (is closed m) 25
     (pick (eqb (f .kind) unfinished) 24
     (pick (misplaced m f) 21
-    (pick (unopened m f) 26
     (pick (out-of-range m f) 22
     (pick (too-deep m f) 23
     (pick (no-place r m f) 27
     (pick (not-rising m f) 28
     (pick (is-redundant m f) 29
-    0))))))))
+    0)))))))
 
 -- the outermost open device, or the device that opens
 abbrev pub outermost : List ℕ → ℕ → ℕ

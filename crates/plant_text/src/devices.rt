@@ -12,11 +12,12 @@ ghost use Rattle.plant_text.specs.inner.Rest.{«line-after»};
 ghost use Rattle.plant_text.specs.inner.Devices.{«opened-at», DeviceStart, DeviceRead, ListStart, ListRead};
 use crate::Room;
 use crate::common::close_at;
+use crate::lines::CLOSE;
 use crate::lines::DEVICE;
 use crate::lines::Ending;
 use crate::lines::Place;
 use crate::lines::device_at;
-use crate::lines::end_refusal;
+use crate::lines::kind_refusal;
 use text::Form;
 
 // A list of devices that has been read up to a line that is no device's: its form, where reading goes on after it, and its number; or the
@@ -121,7 +122,7 @@ fn device(
     match devices(text, room, inside, depth + 1, out, last, root, level) {
         Listed::Refused(y, k) => Ending::Refused(y, k),
         Listed::Stopped(f, stop) => {
-            let y = end_refusal(depth + 2, f.kind);
+            let y = kind_refusal(CLOSE, f.kind);
             if y != 0 {
                 return Ending::Refused(y, stop.line);
             }

@@ -22,9 +22,10 @@ ghost use Rattle.plant_text.specs.inner.Terms.{FitsIndex};
 ghost use Rattle.plant_text.specs.inner.Whole.{ReadAll};
 use crate::devices::Listed;
 use crate::devices::devices;
+use crate::lines::PLANT;
 use crate::lines::Place;
+use crate::lines::kind_refusal;
 use crate::lines::line_at;
-use crate::lines::start_refusal;
 use crate::terms::Closing;
 use crate::terms::read_terms;
 use index::clear;
@@ -142,7 +143,7 @@ fn read_all(
     }
     let first = line_at(text, 0);
     let f = first.form;
-    let x = start_refusal(f.kind);
+    let x = kind_refusal(PLANT, f.kind);
     if x != 0 {
         return Outcome::Refused(x, 1);
     }

@@ -4,7 +4,7 @@ ghost use Prim.Native.Nat.{_≤_};
 ghost use lib.ListN.{length};
 ghost use Rattle.text.specs.inner.Finding.{«found-at»};
 ghost use Rattle.plant_text.specs.Form.{rows, «is-posting»};
-ghost use Rattle.plant_text.specs.inner.Rest.{«highest-known», «end-refusal», «start-refusal»};
+ghost use Rattle.plant_text.specs.inner.Rest.{«highest-known», «kind-refusal»};
 use crate::common::close_at;
 use crate::common::device_line;
 use crate::common::line_of;
@@ -18,7 +18,7 @@ pub const LIMIT: u32 = 65_535;
 // The kinds of line.
 const UNFINISHED: u32 = 0;
 
-const PLANT: u32 = 2;
+pub const PLANT: u32 = 2;
 
 pub const DEVICE: u32 = 3;
 
@@ -28,7 +28,7 @@ pub const OWN: u32 = 5;
 
 pub const ALL: u32 = 6;
 
-const CLOSE: u32 = 7;
+pub const CLOSE: u32 = 7;
 
 // Where reading goes on, at which line, with how many devices or postings.
 pub struct Place {
@@ -105,30 +105,14 @@ pub fn is_posting(kind: u32) -> bool
     kind == OWN || kind == ALL
 }
 
-// Why a line of a kind does not end what is open, with so many brackets open, or 0 where it does.
-pub fn end_refusal(brackets: u32, kind: u32) -> u32
-    ensures { λ r. ⌜ r ≡ «end-refusal» brackets kind ⌝ }
+// Why a line of a kind is not taken where only the kind that is due may stand; or 0 where it is of that kind.
+pub fn kind_refusal(due: u32, kind: u32) -> u32
+    ensures { λ r. ⌜ r ≡ «kind-refusal» due kind ⌝ }
 {
     if kind == UNFINISHED {
         return 24;
     }
-    if kind != CLOSE {
-        return 21;
-    }
-    if brackets == 0 {
-        return 26;
-    }
-    0
-}
-
-// Why a line of a kind does not open a plant, or 0 where it does.
-pub fn start_refusal(kind: u32) -> u32
-    ensures { λ r. ⌜ r ≡ «start-refusal» kind ⌝ }
-{
-    if kind == UNFINISHED {
-        return 24;
-    }
-    if kind != PLANT {
+    if kind != due {
         return 21;
     }
     0

@@ -16,11 +16,12 @@ ghost use Rattle.plant_text.specs.Form.{«is-posting»};
 ghost use Rattle.plant_text.specs.inner.Terms.{Adds, PostsStart, PostsRead, OpensTerm, TermsRead, TermsStart};
 use crate::Room;
 use crate::lines::ALL;
+use crate::lines::CLOSE;
 use crate::lines::Ending;
 use crate::lines::Place;
 use crate::lines::TERM;
-use crate::lines::end_refusal;
 use crate::lines::is_posting;
+use crate::lines::kind_refusal;
 use crate::lines::line_at;
 use crate::lines::posting_at;
 use text::Form;
@@ -136,7 +137,7 @@ fn read_postings(
         let f = found.form;
         let kind = f.kind;
         if !is_posting(kind) {
-            let x = end_refusal(2, kind);
+            let x = kind_refusal(CLOSE, kind);
             if x != 0 {
                 return Ending::Refused(x, k);
             }
@@ -235,7 +236,7 @@ pub fn read_terms(
             count: p.count,
         };
         if f.kind != TERM {
-            let x = end_refusal(1, f.kind);
+            let x = kind_refusal(CLOSE, f.kind);
             if x != 0 {
                 return Closing::Refused(x, k);
             }

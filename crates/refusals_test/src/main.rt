@@ -1,6 +1,5 @@
 // A smallest text for each number that a plant text, a query text or a query in text can be refused by, with its answer. Numbers 1 to 9, 10
-// and 14 cannot arise from text, nor 55 to 59, since the second index is handed in empty, and neither can 26: a closing bracket with nothing
-// open is the first line, which is 21, or stands after the closed plant, which is 25.
+// and 14 cannot arise from text, nor 55 to 59, since the second index is handed in empty.
 mod make;
 
 use io::write_all;

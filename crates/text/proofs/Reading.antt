@@ -1,18 +1,19 @@
--- Reading a text from an index on: what the line there does, and what is read from the next on.
+-- Reading a text from an index on: what the line there does, and what is read from the next on. And what a text comes to goes by what each form
+-- does.
 use Prim.Native.Nat.{ℕ, zero, suc, _+_, _-_, _<_, _≤_}
-use mathlib.Core.Path.{_≡_, refl, _∙_}
-use mathlib.Core.Bool.{Bool, true, false, _&&_}
-use mathlib.Core.List.{List}
+use mathlib.Core.Path.{_≡_, refl, sym, ap, _∙_, fun-ext}
+use mathlib.Core.Bool.{Bool, true, false, _&&_, true≢false}
+use mathlib.Core.List.{List, [], _∷_}
 use lib.Dec.{eqb}
 use lib.ListN.{length, drop, length-drop}
 use native.Mathlib.Omega.{arith}
 use borrow.Author.Tests.{ltb-true, ltb-false, eqb-true}
 use Rattle.laws.proofs.Tests.{and-yes}
-use Rattle.laws.proofs.Cases.{either}
-use Rattle.text.specs.Lines.{line-at, whole-at, next-at}
-use Rattle.text.specs.Forms.{Row, plain, unfinished}
+use Rattle.laws.proofs.Cases.{either, split-cond}
+use Rattle.text.specs.Lines.{lines, line-at, whole-at, next-at}
+use Rattle.text.specs.Forms.{Row, form, plain, unfinished}
 use Rattle.text.specs.inner.Finding.{form-at}
-use Rattle.text.specs.Reading.{Step, refused, Read, made, no, unless, and-then, read-lines, reading, line-of, end-of, reading-forms}
+use Rattle.text.specs.Reading.{Step, to, refused, Read, made, no, unless, and-then, read-lines, reading, line-of, end-of, reading-forms}
 use Rattle.text.specs.declared.Form.{Form}
 use Rattle.text.proofs.Lines.{lines-whole, lines-tail}
 
@@ -51,3 +52,55 @@ module _ {S : Type 0} (rows : List Row) (closed : S → Bool) (step : S → Form
       (λ w. reading-line (line-of rows step) (end-of closed step) s k t at (ltb-true (at + length (line-at t at)) (length t) w) ∙ rw w)
       (λ w. reading-tail (line-of rows step) (end-of closed step) s k t at (ltb-false (at + length (line-at t at)) (length t) w)
       ∙ rw (length-drop at t, e, w, u .refuses s))
+
+-- ---- what a text comes to goes by what each form does
+
+-- forms that do the same are read alike
+pub reads-alike : {S : Type 0} (rows : List Row) (closed : S → Bool) {step step′ : S → Form → Step S} → ((s : S) (f : Form) → step s f ≡ step′ s f) →
+    (s : S) (k : ℕ) (t : List ℕ) → reading-forms rows closed step s k t ≡ reading-forms rows closed step′ s k t
+reads-alike {S} rows closed e s k t = ap (λ (g : S → Form → Step S). reading-forms rows closed g s k t) (fun-ext (λ s′. fun-ext (e s′)))
+
+-- what makes something is not refused: a line, and a text
+not-to : {S X : Type 0} (x : ℕ) (s : S) → refused x ≡ to s → X
+not-to {S} x s h = absurd (true≢false (sym (ap is-to h)))
+  where
+    is-to : Step S → Bool
+    is-to (to s) = true
+    is-to (refused x) = false
+
+pub not-made : {S X : Type 0} (x k : ℕ) (s : S) → no x k ≡ made s → X
+not-made {S} x k s h = absurd (true≢false (sym (ap is-made h)))
+  where
+    is-made : Read S → Bool
+    is-made (made s) = true
+    is-made (no x k) = false
+
+-- rows that come to another number do not refuse by this one
+pub unless-other : {S : Type 0} (n : ℕ) (s : S) {x : ℕ} → (n ≡ x → ⊥) → unless n s ≡ refused x → ⊥
+unless-other zero s {x} h e = not-to x s (sym e)
+unless-other {S} (suc n) s h e = h (ap by e)
+  where
+    by : Step S → ℕ
+    by (to s) = 0
+    by (refused x) = x
+
+-- a number that refuses no form refuses no text
+module _ {S : Type 0} (rows : List Row) (closed : S → Bool) (step : S → Form → Step S) (x : ℕ) (h : (s : S) (f : Form) → step s f ≡ refused x → ⊥) where
+  after : (k : ℕ) {l : ℕ} (y : Step S) {f : S → Read S} → (y ≡ refused x → ⊥) → ((s : S) → f s ≡ no x l → ⊥) → and-then y k f ≡ no x l → ⊥
+  after k (to s) a b e = b s e
+  after k (refused n) a b e = a (ap (λ (m : ℕ). refused m) (ap by e))
+    where
+      by : Read S → ℕ
+      by (made s) = 0
+      by (no n k) = n
+
+  at-end : (s : S) (tail : List ℕ) → end-of closed step s tail ≡ refused x → ⊥
+  at-end s tail = split-cond (λ y. y ≡ refused x → ⊥) (closed s && eqb (length tail) 0) (λ c e. not-to x s (sym e)) (λ c. h s (plain unfinished))
+
+  in-lines : (s : S) (k l : ℕ) (ls : List (List ℕ)) (tail : List ℕ) → read-lines (line-of rows step) (end-of closed step) s k ls tail ≡ no x l → ⊥
+  unfolding read-lines
+  in-lines s k l [] tail = after k (end-of closed step s tail) (at-end s tail) (λ s′ e. not-made x l s′ (sym e))
+  in-lines s k l (b ∷ ls) tail = after k (step s (form rows b)) (h s (form rows b)) (λ s′. in-lines s′ (k + 1) l ls tail)
+
+  pub never-refused : (s : S) (k l : ℕ) (t : List ℕ) → reading-forms rows closed step s k t ≡ no x l → ⊥
+  never-refused s k l t = in-lines s k l (lines t .whole) (lines t .tail)

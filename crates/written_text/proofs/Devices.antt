@@ -5,7 +5,6 @@ use mathlib.Core.Bool.{true, false}
 use mathlib.Core.List.{List, [], _∷_, _++_, append-assoc, append-nil}
 use native.Mathlib.Omega.{arith}
 use native.Mathlib.Numerals.{add-one}
-use borrow.Author.Tests.{ne-eqb}
 use lib.Dec.{leb, ltb}
 use lib.ListN.{length, getD, take, set, length-append}
 use lib.Seq.{slice, slice-cons, slice-empty, length-slice, take-suc, set-at, take-all, take-length}
@@ -49,7 +48,7 @@ module _ (r : Room) (L R W stack : List ℕ) where
 
   close-taken : (d : ℕ) → line-refusal r (opened L R W (d ∷ stack)) (plain close-line) ≡ 0
   unfolding line-refusal
-  close-taken d = rw (ne-eqb (suc (suc (length stack))) 0 (omega arith))
+  close-taken d = refl
 
   close-next : (d n : ℕ) → length L ≡ n → next (opened L R W (d ∷ stack)) (plain close-line) ≡ opened (set L (d - 1) n) R W stack
   unfolding next

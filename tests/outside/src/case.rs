@@ -372,7 +372,7 @@ fn complete_queries(t: &Tables) -> [Query; 3] {
     ]
 }
 
-fn plant_outcome(read: Result<Tables, Refused>, room: [usize; 6]) -> Outcome {
+pub fn plant_outcome(read: Result<Tables, Refused>, room: [usize; 6]) -> Outcome {
     let (refusal, numbers, t) = match read {
         Ok(t) => (0, [0, t.last.len(), t.terms.len(), t.postings.len()], t),
         Err((number, line)) => (number, [line as usize, 0, 0, 0], Tables::default()),

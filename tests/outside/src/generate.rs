@@ -1,4 +1,5 @@
 //! Random cases: sound plants, tables with damage, queries, texts and texts with damage.
+use crate::bracket_cases;
 use crate::case::{parted, Case};
 use crate::level_cases::{self, handing, levels, put_level_lines, true_range};
 use crate::paper::{device_of, Index, Levels, Query, Tables};
@@ -591,8 +592,8 @@ pub const Q: &[u8] = b"(plant\n(dev 100\n(dev 101\n(dev 102\n)\n(dev 103\n)\n(de
 (mark 4\n(own 2)\n(own 3)\n(own 4)\n(own 6)\n(own 8)\n)\n)\n";
 
 /// Cases without chance: each way to damage P in one place, P's text and two asks cut and changed at every byte, every small
-/// query over P, searches in two indexes, every level code and level line, tables of lengths 0 and 1, what is written at each
-/// limit, the longest lists, repairs and tightenings.
+/// query over P, searches in two indexes, every level code and level line, tables of lengths 0 and 1, plant texts of few lines,
+/// what is written at each limit, the longest lists, repairs and tightenings.
 pub fn systematic() -> Vec<Case> {
     let p = crate::paper::read_plant(P, [9; 6]).unwrap();
     let mut cases = vec![];
@@ -611,6 +612,7 @@ pub fn systematic() -> Vec<Case> {
     level_cases::systematic(&mut cases);
     short_tables(&mut cases);
     short_texts(&mut cases);
+    bracket_cases::systematic(&mut cases);
     deep_plants(&mut cases);
     long_texts(&p, &mut cases);
     large_tables(&mut cases);

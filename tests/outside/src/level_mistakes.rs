@@ -7,10 +7,8 @@ use crate::paper::{self, Answer, Index, Levels, Query, Tables};
 use crate::search_mistakes::Lent;
 use crate::slow;
 
-/// The first of these mistakes, and the last.
+/// The first of these mistakes; the last is 155.
 pub const FIRST: u64 = 105;
-#[cfg(test)]
-pub const LAST: u64 = 155;
 
 /// The papers with one of these mistakes.
 pub fn outcome(mistake: u64, case: &Case) -> Outcome {

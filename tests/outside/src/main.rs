@@ -1,6 +1,7 @@
 //! Holds the proved functions, called from outside, to the papers in plain Rust, over many cases.
 //!
 //! `outside [CASES] [SEED]`; `outside wrong K [CASES]` puts a known mistake in the place of the archive, to see that it is found.
+mod bracket_cases;
 mod case;
 mod ffi;
 mod generate;
@@ -85,8 +86,7 @@ impl Tally {
         }
     }
 
-    /// Every row of document 01's table is reached, and 15, 36, 40, 41, 44 and 55 to 59 of document 02, but 26: no text has a
-    /// closing bracket with nothing open, since one on the first line is 21 and one after the closed plant is 25.
+    /// Every row of document 01's table is reached, and 15, 36, 40, 41, 44 and 55 to 59 of document 02, which takes 26 out.
     fn report(&self, seconds: f64) -> bool {
         let mut reached = true;
         for (number, count) in self.refusals.iter().enumerate() {

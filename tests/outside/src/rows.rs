@@ -342,6 +342,17 @@ fn tables_of_p() {
     assert_eq!(crate::slow::check(&of_7(&[2, 5])), 0);
 }
 
+/// Every row of a plant text is reached, and no other number.
+#[test]
+fn plant_texts_reach_every_refusal() {
+    let rows: BTreeSet<u32> = [0].into_iter().chain(20..=25).chain(27..=29).collect();
+    let mut r = Random(1);
+    let random = (0..100_000).map(|_| generate::case(&mut r));
+    let texts = |case: &Case| matches!(case, Case::Plant(..));
+    assert_eq!(reached(generate::systematic().into_iter().filter(texts)), rows);
+    assert_eq!(reached(random.filter(texts)), rows);
+}
+
 #[test]
 fn texts_that_are_refused() {
     let plant = |text: &str| read_plant(text.as_bytes(), [9; 6]).unwrap_err();

@@ -1,4 +1,5 @@
 //! What is held to the paper: the archive, or the paper with a known mistake in it.
+use crate::bracket_cases;
 use crate::case::{handed, lent, printed, Case, Outcome};
 use crate::level_mistakes;
 use crate::paper::{device_of, Answer, Levels, Move, Query, Tables};
@@ -54,6 +55,9 @@ pub struct Wrong(pub u64);
 
 impl Subject for Wrong {
     fn outcome(&self, case: &Case) -> Outcome {
+        if self.0 >= bracket_cases::FIRST {
+            return bracket_cases::outcome(self.0, case);
+        }
         if self.0 >= level_mistakes::FIRST {
             return level_mistakes::outcome(self.0, case);
         }
@@ -165,7 +169,7 @@ impl Subject for Wrong {
 
 /// How many mistakes there are.
 #[cfg(test)]
-pub const MISTAKES: u64 = level_mistakes::LAST;
+pub const MISTAKES: u64 = bracket_cases::LAST;
 
 /// A repair: the refusal, how many were dropped and how many there are now, the tables and the report.
 type Repaired = (u32, [usize; 2], Tables, Vec<u32>);

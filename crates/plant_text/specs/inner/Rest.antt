@@ -11,7 +11,7 @@ use Rattle.index.specs.Index.{most-terms, most-postings}
 use Rattle.text.specs.Forms.{unfinished}
 use Rattle.text.specs.Reading.{Read, and-then, reading-forms}
 use Rattle.text.specs.declared.Form.{Form}
-use Rattle.plant_text.specs.Form.{plant-line, close-line, rows}
+use Rattle.plant_text.specs.Form.{rows}
 use Rattle.plant_text.specs.PlantText.{longest-text, State, is, closed, step}
 use Rattle.plant_text.specs.declared.Room.{Room}
 use Rattle.plant_text.specs.declared.lines.Place.{Place}
@@ -48,10 +48,6 @@ pub record Bounded (r : Room) : Type 0 where
   pub terms : r .terms ≤ most-terms
   pub postings : r .postings ≤ most-postings
 
--- why a line of a kind does not end what is open, with so many brackets open, or 0 where it does: rows 24, 21 and 26
-abbrev pub end-refusal : ℕ → ℕ → ℕ
-end-refusal brackets kind = pick (eqb kind unfinished) 24 (pick (not (eqb kind close-line)) 21 (pick (eqb brackets 0) 26 0))
-
--- why a line of a kind does not open a plant, or 0 where it does: rows 24 and 21
-abbrev pub start-refusal : ℕ → ℕ
-start-refusal kind = pick (eqb kind unfinished) 24 (pick (not (eqb kind plant-line)) 21 0)
+-- why a line of a kind is not taken where only the kind that is due may stand, or 0 where it is of that kind: rows 24 and 21
+abbrev pub kind-refusal : ℕ → ℕ → ℕ
+kind-refusal due kind = pick (eqb kind unfinished) 24 (pick (not (eqb kind due)) 21 0)

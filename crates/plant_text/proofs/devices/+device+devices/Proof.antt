@@ -21,7 +21,7 @@ use Rattle.plant_text.proofs.devices.close_device.Reads as close-device
 use Rattle.plant_text.proofs.devices.device_refusal.Reads as device-refusal-reads
 use Rattle.plant_text.proofs.devices.open_device.Reads as open-device-reads
 use Rattle.plant_text.proofs.devices.outer.Reads as outer-reads
-use Rattle.plant_text.proofs.lines.end_refusal.Reads as end-refusal-reads
+use Rattle.plant_text.proofs.lines.kind_refusal.Reads as kind-refusal-reads
 use Rattle.plant_text.proofs.lines.device_at.Reads as device-at-reads
 use Rattle.plant_text.proofs.devices.+device+devices.{statement}
 use Rattle.plant_text.proofs.devices.+device+devices.Tie.{close}
@@ -57,8 +57,8 @@ device-calls t = (
   close-at-reads.Learnt,
   devices-below t,
   devices.Post,
-  end-refusal-reads.Asked,
-  end-refusal-reads.Learnt,
+  kind-refusal-reads.Asked,
+  kind-refusal-reads.Learnt,
   close-device-reads.Asked,
   close-device-reads.Learnt,
 )
@@ -74,7 +74,7 @@ module _ (t : ℕ) where
   abbrev opened : device-lts.After-devices (device-calls t) (device-at t) device.Post → device-lts.After-open-device (device-calls t) (device-at t) device.Post
   opened c = c .before .before .before .before .before .before .before .before .before .before .before .before
 
-  abbrev read : device-lts.After-end-refusal (device-calls t) (device-at t) device.Post → device-lts.After-devices (device-calls t) (device-at t) device.Post
+  abbrev read : device-lts.After-kind-refusal (device-calls t) (device-at t) device.Post → device-lts.After-devices (device-calls t) (device-at t) device.Post
   read c = c .before .before .before .before .before .before .before .before .before .before
 
   -- what is known past the tests
@@ -137,16 +137,13 @@ module _ (t : ℕ) where
             (o .before .before .before .before .outer .ensures) (o .open-device .ensures),
       )
 
-  device-add-end-refusal : device-lts.Need-add-end-refusal (device-calls t) (device-at t) device.Post
-  device-add-end-refusal c = omega (arith, passed (tested (opened (c .before .before .before .before .before .before .before .before .before))))
-
   device-returns-3 : device-lts.Need-returns-3 (device-calls t) (device-at t) device.Post
   device-returns-3 c =
       let l = read (c .before) in
       let o = opened l in
       let e = tested o in
       device-open _ _ _ _ _ (e .before .device-refusal .ensures) (e .before .before .before .before .before .before .pre .1) (e .if1 .left) (o .before .before .before .before .outer .ensures) (o .open-device .ensures) (l .devices .ensures)
-      (c .before .before .before .f .given .1) (c .before .end-refusal .ensures) (c .if3 .taken)
+      (c .before .before .before .f .given .1) (c .before .kind-refusal .ensures) (c .if3 .taken)
 
   device-close-device-requires : device-lts.Need-close-device-requires (device-calls t) (device-at t) device.Post
   device-close-device-requires c κs =
@@ -155,7 +152,7 @@ module _ (t : ℕ) where
       let e = tested o in
       let p = e .before .before .before .before .before .before in
       close-ready (p .args .text .now) (p .args .place) (p .args .depth) (p .args .top) (p .args .n) (e .before .device-refusal .ensures) (p .pre .1) (e .if1 .left)
-      (o .before .before .before .before .outer .ensures) (o .open-device .ensures) (l .devices .ensures) (c .before .before .before .before .f .given .1) (c .before .before .end-refusal .ensures)
+      (o .before .before .before .before .outer .ensures) (o .open-device .ensures) (l .devices .ensures) (c .before .before .before .before .f .given .1) (c .before .before .kind-refusal .ensures)
 
   device-returns-4 : device-lts.Need-returns-4 (device-calls t) (device-at t) device.Post
   device-returns-4 c =
@@ -173,7 +170,7 @@ module _ (t : ℕ) where
       let o = opened l in
       let e = tested o in
       device-ended _ _ _ _ _ (e .before .device-refusal .ensures) (e .before .before .before .before .before .before .pre .1) (e .if1 .left) (o .before .before .before .before .outer .ensures) (o .open-device .ensures) (l .devices .ensures)
-      (r .before .before .f .given .1) (r .end-refusal .ensures) (d .before .before .if3 .left) (d .close-device .ensures .0) (d .close-device .ensures .1)
+      (r .before .before .f .given .1) (r .kind-refusal .ensures) (d .before .before .if3 .left) (d .close-device .ensures .0) (d .close-device .ensures .1)
 
   -- tables of the same sizes come back where a device ends
   device-same-length-10 : device-lts.Need-same-length-10 (device-calls t) (device-at t) device.Post
@@ -251,7 +248,7 @@ pub +device+devices-spec : {M : Type 1} → statement M
     (λ c κs. search needs) (device-returns t) (λ c. search needs) (device-cast-own t) (λ c κs. search needs) (device-open-device-requires t)
     (λ c κs. search needs) (λ c. search needs) (device-slice-write-last t) (device-add-t34 t) (device-add-t32 t) (λ c. search needs) (λ c. search needs)
     (λ c. search needs) (device-returns-2 t) (λ c. search needs) (λ c. search needs) (device-add-devices-2 t) (device-devices-requires t)
-    (λ c. search needs) (λ c. search needs) (device-add-end-refusal t) (λ c κs. search needs) (λ c. search needs) (λ c. search needs)
+    (λ c. search needs) (λ c. search needs) (λ c κs. search needs) (λ c. search needs) (λ c. search needs)
     (λ c. search needs) (device-returns-3 t) (device-close-device-requires t) (λ c. search needs) (λ c. search needs) (λ c. search needs)
     (device-returns-4 t) (device-same-length-10 t) (device-same-length-11 t) (device-same-length-12 t) (device-returns-5 t))
     (λ t. devices-lts.spec (devices-calls t) (devices-at t) devices.Post Inv μ

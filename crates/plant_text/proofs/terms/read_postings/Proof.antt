@@ -34,7 +34,7 @@ returns : tie.Need-returns Inv μ
 returns c =
     let i = c .before .before .before in
     let f = found i in
-    record { result = posts-refused (f .before .loop .inv .0) (f .posting-at .ensures) (i .is-posting .ensures) (c .before .before .if1 .taken) (c .before .end-refusal .ensures) (c .if2 .taken) }
+    record { result = posts-refused (f .before .loop .inv .0) (f .posting-at .ensures) (i .is-posting .ensures) (c .before .before .if1 .taken) (c .before .kind-refusal .ensures) (c .if2 .taken) }
 
 add-t21 : tie.Need-add-t21 Inv μ
 add-t21 c = let s = found (c .before .before .before) .before .loop .inv .0 .start .at-line in omega (arith, s .lined, s .within, s .fits)
@@ -43,7 +43,7 @@ returns-2 : tie.Need-returns-2 Inv μ
 returns-2 c =
     let i = c .before .before .before in
     let f = found i in
-    record { result = posts-ended (f .before .loop .inv .0) (f .posting-at .ensures) (i .is-posting .ensures) (c .before .before .if1 .taken) (c .before .end-refusal .ensures) (c .if2 .left) }
+    record { result = posts-ended (f .before .loop .inv .0) (f .posting-at .ensures) (i .is-posting .ensures) (c .before .before .if1 .taken) (c .before .kind-refusal .ensures) (c .if2 .left) }
 
 add-posting-requires : tie.Need-add-posting-requires Inv μ
 add-posting-requires c κs =

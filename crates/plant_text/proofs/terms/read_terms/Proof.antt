@@ -32,10 +32,10 @@ add-t21 : tie.Need-add-t21 Inv μ
 add-t21 c = let s = c .loop .inv .0 .start .at-line in omega (arith, s .lined, s .within, s .fits)
 
 returns : tie.Need-returns Inv μ
-returns c = record { result = terms-refused (c .before .before .before .before .loop .inv .0) (c .before .before .if1 .taken) (c .before .end-refusal .ensures) (c .if2 .taken) }
+returns c = record { result = terms-refused (c .before .before .before .before .loop .inv .0) (c .before .before .if1 .taken) (c .before .kind-refusal .ensures) (c .if2 .taken) }
 
 returns-2 : tie.Need-returns-2 Inv μ
-returns-2 c = record { result = terms-closed (c .before .before .before .before .loop .inv .0) (c .before .before .if1 .taken) (c .before .end-refusal .ensures) (c .if2 .left) }
+returns-2 c = record { result = terms-closed (c .before .before .before .before .loop .inv .0) (c .before .before .if1 .taken) (c .before .kind-refusal .ensures) (c .if2 .left) }
 
 open-term-requires : tie.Need-open-term-requires Inv μ
 open-term-requires c κs = term-ready (c .before .before .before .before .loop .inv .0)
