@@ -1,5 +1,6 @@
 //! Document 01's worked rows over plant P, and more over plant Q, which the plain implementation must give, in one index and in
 //! two, what it writes, what it repairs and what it tightens.
+use crate::bracket_cases;
 use crate::case::{handed, parted, Case, Outcome};
 use crate::generate::{self, of_tiers, query_text, P, Q};
 use crate::level_cases;
@@ -342,15 +343,15 @@ fn tables_of_p() {
     assert_eq!(crate::slow::check(&of_7(&[2, 5])), 0);
 }
 
-/// Every row of a plant text is reached, and no other number.
+/// Every row of plant text is reached, and no other number; by few lines those that few lines can give.
 #[test]
 fn plant_texts_reach_every_refusal() {
-    let rows: BTreeSet<u32> = [0].into_iter().chain(20..=25).chain(27..=29).collect();
     let mut r = Random(1);
-    let random = (0..100_000).map(|_| generate::case(&mut r));
-    let texts = |case: &Case| matches!(case, Case::Plant(..));
-    assert_eq!(reached(generate::systematic().into_iter().filter(texts)), rows);
-    assert_eq!(reached(random.filter(texts)), rows);
+    let texts = (0..100_000).map(|_| generate::case(&mut r)).filter(|case| matches!(case, Case::Plant(..)));
+    assert_eq!(reached(texts), BTreeSet::from([0, 20, 21, 22, 23, 24, 25, 27, 28, 29]));
+    let mut few = vec![];
+    bracket_cases::systematic(&mut few);
+    assert_eq!(reached(few.into_iter()), BTreeSet::from([0, 21, 22, 24, 25, 28]));
 }
 
 #[test]
