@@ -1,5 +1,5 @@
 -- 26, "a closing bracket with nothing open", was a row of document 01's table between 21 and 22. It applied to lines of which 25 or 21, before it,
--- did too (`bracket-is`). So no text of any length, into tables of any room, was refused by it (`never`), and without it every text comes to the
+-- did too (`bracket-was`). So no text of any length, into tables of any room, was refused by it (`never`), and without it every text comes to the
 -- same, its number and its line with it (`the-same`). Document 02, §13: it is no row any more, and its number isn't used again.
 use Prim.Native.Nat.{ℕ, suc}
 use mathlib.Core.Path.{_≡_, refl, sym, ap, _∙_}
@@ -71,22 +71,21 @@ read-with-26 r text = cond (ltb longest-text (length text)) (no 20 0) (reading-f
 
 -- ---- where 26 applied, 25 or 21 did
 
--- a closing bracket with nothing open is 25 after the closing line, and 21 elsewhere, which is the first line
-pub bracket-is : (r : Room) (m : State) (f : Form) → unopened m f ≡ true → line-refusal r m f ≡ cond (is closed m) 25 21
-unfolding line-refusal
-bracket-is r m f e =
+-- after any lines, a closing bracket with nothing open was 25 where the plant is closed, and 21 elsewhere, which is the first line
+pub bracket-was : (r : Room) (m : State) (f : Form) → unopened m f ≡ true → line-refusal-with-26 r m f ≡ cond (is closed m) 25 21
+bracket-was r m f e =
     let u = and-yes (eqb (f .kind) close-line) (eqb (brackets (m .stage) (m .opened)) 0) .0 e in
     go (m .stage) (m .opened) (eqb-true (f .kind) close-line (u .0)) (u .1) _
   where
     go : (s : Stage) (ds : List ℕ) {kind : ℕ} → kind ≡ close-line → eqb (brackets s ds) 0 ≡ true → (x : ℕ) →
-        pick (eqb (rank s) (rank closed)) 25 (pick (eqb kind unfinished) 24 (pick (not (stands s ds kind)) 21 x)) ≡ cond (eqb (rank s) (rank closed)) 25 21
+        pick (eqb (rank s) (rank closed)) 25 (pick (eqb kind unfinished) 24 (pick (not (stood s ds kind)) 21 x)) ≡ cond (eqb (rank s) (rank closed)) 25 21
     go start ds k o x = rw k
     go devices ds k o x = absurd (true≢false (sym o ∙ ne-eqb (suc (length ds)) 0 (omega arith)))
     go terms ds k o x = absurd (true≢false (sym o))
     go postings ds k o x = absurd (true≢false (sym o))
     go closed ds k o x = refl
 
--- so every line keeps its number, after any lines and whatever the room
+-- so without 26 every line keeps its number, after any lines and whatever the room
 pub same-refusal : (r : Room) (m : State) (f : Form) → line-refusal-with-26 r m f ≡ line-refusal r m f
 unfolding line-refusal
 same-refusal r m f = go (m .stage) (m .opened) (f .kind) _
