@@ -1,5 +1,5 @@
 -- What is read passes the check of tables: a text that is accepted makes tables that are refused by none of 1 to 9.
-use Prim.Native.Nat.{ℕ, zero, suc, _+_, _≤_}
+use Prim.Native.Nat.{ℕ, _+_, _≤_}
 use mathlib.Core.Path.{_≡_, refl, sym, _∙_, ap, subst}
 use mathlib.Core.Bool.{Bool, true, false, _&&_, _||_, and-false, true≢false}
 use mathlib.Core.List.{List, [], _∷_}
@@ -19,9 +19,9 @@ use Rattle.index.proofs.Lists.{device-of}
 use Rattle.index.proofs.Growing.{accepted-none, accepted-open, accepted-add}
 use Rattle.text.specs.Lines.{lines}
 use Rattle.text.specs.Forms.{form, plain, unfinished}
-use Rattle.text.specs.Reading.{Read, made, unless, and-then, read-lines, line-of, end-of}
+use Rattle.text.specs.Reading.{made, and-then, read-lines, line-of, end-of}
 use Rattle.text.specs.declared.Form.{Form}
-use Rattle.text.proofs.Reading.{not-made}
+use Rattle.text.proofs.Reading.{not-made, unless-made}
 use Rattle.plant_text.specs.Form.{plant-line, device-line, term-line, own-line, all-line, close-line, rows}
 use Rattle.plant_text.specs.PlantText.{Stage, start, devices, terms, postings, closed, State, nothing, rank, is, stands, misplaced, out-of-range, too-deep, no-place, not-rising, is-redundant, line-refusal, add-posting, next, step, longest-text, read-plant, room, kept}
 use Rattle.plant_text.specs.declared.Room.{Room}
@@ -166,11 +166,6 @@ module _ (r : Room) (w : Within r) where
   taken closed ds P I h f = λ p. absurd (true≢false (p .unclosed))
 
 -- ---- line by line
-
--- what is made by a line that may be refused
-pub unless-made : (x : ℕ) (s : State) (k : ℕ) (f : State → Read State) (m : State) → and-then (unless x s) k f ≡ made m → (x ≡ 0) × (f s ≡ made m)
-unless-made zero s k f m h = (refl, h)
-unless-made (suc x) s k f m h = not-made (suc x) k m h
 
 module _ (r : Room) (w : Within r) where
   read-accepted : (ls : List (List ℕ)) (tail : List ℕ) (s : State) (k : ℕ) (m : State) → Invariant s →

@@ -1,6 +1,6 @@
--- 26, "a closing bracket with nothing open", was a row of document 01's table between 21 and 22. It applied to lines of which 25 or 21, before it,
--- did too (`bracket-was`). So no text of any length, into tables of any room, was refused by it (`never`), and without it every text comes to the
--- same, its number and its line with it (`the-same`). Document 02, §13: it is no row any more, and its number isn't used again.
+-- 26, "a closing bracket with nothing open", was a row of document 01's table between 21 and 22. It applied only where 25 or 21, which stood before
+-- it, did too (`bracket-was`). So no text of any length, into tables of any room, was refused by it (`never`), and without it every text keeps its
+-- number and its line (`the-same`). Document 02, §13: it is no row any more, and its number isn't used again.
 use Prim.Native.Nat.{ℕ, suc}
 use mathlib.Core.Path.{_≡_, refl, sym, ap, _∙_}
 use mathlib.Core.Bool.{Bool, true, cond, _&&_, _||_, not, and-false, true≢false}

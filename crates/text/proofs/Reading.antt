@@ -2,7 +2,7 @@
 -- does.
 use Prim.Native.Nat.{ℕ, zero, suc, _+_, _-_, _<_, _≤_}
 use mathlib.Core.Path.{_≡_, refl, sym, ap, _∙_, fun-ext}
-use mathlib.Core.Bool.{Bool, true, false, _&&_, true≢false}
+use mathlib.Core.Bool.{Bool, true, false, _&&_}
 use mathlib.Core.List.{List, [], _∷_}
 use lib.Dec.{eqb}
 use lib.ListN.{length, drop, length-drop}
@@ -55,47 +55,34 @@ module _ {S : Type 0} (rows : List Row) (closed : S → Bool) (step : S → Form
 
 -- ---- what a text comes to goes by what each form does
 
--- forms that do the same are read alike
+-- steps that do the same with every form read every text alike
 pub reads-alike : {S : Type 0} (rows : List Row) (closed : S → Bool) {step step′ : S → Form → Step S} → ((s : S) (f : Form) → step s f ≡ step′ s f) →
     (s : S) (k : ℕ) (t : List ℕ) → reading-forms rows closed step s k t ≡ reading-forms rows closed step′ s k t
 reads-alike {S} rows closed e s k t = ap (λ (g : S → Form → Step S). reading-forms rows closed g s k t) (fun-ext (λ s′. fun-ext (e s′)))
 
--- what makes something is not refused: a line, and a text
-not-to : {S X : Type 0} (x : ℕ) (s : S) → refused x ≡ to s → X
-not-to {S} x s h = absurd (true≢false (sym (ap is-to h)))
-  where
-    is-to : Step S → Bool
-    is-to (to s) = true
-    is-to (refused x) = false
-
+-- what is refused makes nothing
 pub not-made : {S X : Type 0} (x k : ℕ) (s : S) → no x k ≡ made s → X
-not-made {S} x k s h = absurd (true≢false (sym (ap is-made h)))
-  where
-    is-made : Read S → Bool
-    is-made (made s) = true
-    is-made (no x k) = false
+not-made x k s h = let z : _≡_ {A = ℕ} 0 1 = cc in absurd (omega arith)
+
+-- what is made by a line that may be refused
+pub unless-made : {S : Type 0} (x : ℕ) (s : S) (k : ℕ) (f : S → Read S) (m : S) → and-then (unless x s) k f ≡ made m → (x ≡ 0) × (f s ≡ made m)
+unless-made zero s k f m h = (refl, h)
+unless-made (suc x) s k f m h = not-made (suc x) k m h
 
 -- rows that come to another number do not refuse by this one
 pub unless-other : {S : Type 0} (n : ℕ) (s : S) {x : ℕ} → (n ≡ x → ⊥) → unless n s ≡ refused x → ⊥
-unless-other zero s {x} h e = not-to x s (sym e)
-unless-other {S} (suc n) s h e = h (ap by e)
-  where
-    by : Step S → ℕ
-    by (to s) = 0
-    by (refused x) = x
+unless-other zero s h e = let z : _≡_ {A = ℕ} 0 1 = cc in omega arith
+unless-other (suc n) s h e = h cc
 
 -- a number that refuses no form refuses no text
 module _ {S : Type 0} (rows : List Row) (closed : S → Bool) (step : S → Form → Step S) (x : ℕ) (h : (s : S) (f : Form) → step s f ≡ refused x → ⊥) where
   after : (k : ℕ) {l : ℕ} (y : Step S) {f : S → Read S} → (y ≡ refused x → ⊥) → ((s : S) → f s ≡ no x l → ⊥) → and-then y k f ≡ no x l → ⊥
   after k (to s) a b e = b s e
-  after k (refused n) a b e = a (ap (λ (m : ℕ). refused m) (ap by e))
-    where
-      by : Read S → ℕ
-      by (made s) = 0
-      by (no n k) = n
+  after k (refused n) a b e = a cc
 
   at-end : (s : S) (tail : List ℕ) → end-of closed step s tail ≡ refused x → ⊥
-  at-end s tail = split-cond (λ y. y ≡ refused x → ⊥) (closed s && eqb (length tail) 0) (λ c e. not-to x s (sym e)) (λ c. h s (plain unfinished))
+  at-end s tail =
+      split-cond (λ y. y ≡ refused x → ⊥) (closed s && eqb (length tail) 0) (λ c e. let z : _≡_ {A = ℕ} 0 1 = cc in omega arith) (λ c. h s (plain unfinished))
 
   in-lines : (s : S) (k l : ℕ) (ls : List (List ℕ)) (tail : List ℕ) → read-lines (line-of rows step) (end-of closed step) s k ls tail ≡ no x l → ⊥
   unfolding read-lines

@@ -11,12 +11,12 @@ use Rattle.text.specs.Lines.{lines, ended}
 use Rattle.text.specs.Forms.{other, unfinished, plain, with-number, form, spelled}
 use Rattle.text.specs.Reading.{made, and-then, read-lines, line-of, end-of}
 use Rattle.text.specs.declared.Form.{Form}
-use Rattle.text.proofs.Reading.{not-made}
+use Rattle.text.proofs.Reading.{not-made, unless-made}
 use Rattle.text.proofs.Spelling.{AllPlain, lines-ended, ended-lines}
 use Rattle.plant_text.specs.Form.{own-line, all-line, rows}
 use Rattle.plant_text.specs.PlantText.{Stage, start, devices, terms, postings, closed, State, nothing, rank, is, stands, line-refusal, add-posting, next, step, longest-text, read-plant, kept}
 use Rattle.plant_text.specs.declared.Room.{Room}
-use Rattle.accepted_text.proofs.Accepted.{passed, unless-made}
+use Rattle.accepted_text.proofs.Accepted.{passed}
 use Rattle.written_text.specs.Text.{bytes-of}
 use Rattle.written_text.proofs.Written.{Written, spelled-reads, spelled-plain, reads-spelled}
 

@@ -51,6 +51,7 @@ pub fn outcome(mistake: u64, case: &Case) -> Outcome {
     }
 }
 
+/// What is read of a plant text with one of these mistakes about a closing bracket with nothing open.
 fn misread(mistake: u64, text: &[u8], room: [usize; 6]) -> Result<Tables, Refused> {
     let right = read_plant(text, room);
     let Err((number, k)) = right else { return right };
