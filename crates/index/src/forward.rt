@@ -6,7 +6,7 @@ ghost use Rattle.index.specs.Around.{Around};
 ghost use Rattle.index.specs.inner.Parts.{Part};
 
 // Where a forward step lands, and how many postings it passed over without landing.
-#[derive(Drop)]
+#[derive(Clone, Copy)]
 pub struct Step {
     pub at: usize,
     pub passed: usize,
@@ -63,7 +63,7 @@ pub fn seek(list: &[u32], position: usize, target: u32) -> Step
     step_on(position, bisect(list, low, high, target))
 }
 
-#[derive(Drop)]
+#[derive(Clone, Copy)]
 struct Span {
     low: usize,
     high: usize,

@@ -1,4 +1,6 @@
 // The index of a plant: reads of a posting, the list of a term, and the forward step.
+#![tactic(auto)]
+
 mod forward;
 mod list;
 mod postings;

@@ -1,5 +1,7 @@
 // The check of device tables and an index. In a pass's contract `[]` stands for a table that its row does not read, and the starts stand for
 // the terms where only their number counts.
+#![tactic(auto)]
+
 ghost use Rattle.std.specs.Prelude.{◌≡◌, ◌||◌, [], length};
 ghost use Rattle.laws.specs.Limits.{highest_term};
 ghost use Rattle.laws.specs.Rows.{otherwise};

@@ -1,4 +1,6 @@
 // Integers in a wider type, the least of two, the number before one, and a refusal or else another: what asks nothing of a caller, in one place.
+#![tactic(auto)]
+
 ghost use Rattle.std.specs.Prelude.{◌≡◌, ◌-◌, min};
 ghost use Rattle.laws.specs.Rows.{otherwise};
 

@@ -1,1 +1,2 @@
 // What every crate shares: definitions in specs/, laws about them in proofs/. No code.
+#![tactic(auto)]

@@ -1,4 +1,6 @@
 // Device tables that a caller lends, and their check.
+#![tactic(auto)]
+
 ghost use Rattle.std.specs.Prelude.{◌≡◌, false, ◌<◌, length};
 ghost use Rattle.laws.specs.Rows.{pick};
 ghost use Rattle.laws.specs.Search.{any};
@@ -52,7 +54,7 @@ fn any_out_of_range(last: &[u16]) -> bool
 // Whether the branch of d is out of range or overlaps another, where no later branch is or does. Goes over the children of d.
 fn faulty_at(last: &[u16], d: usize) -> bool
     requires entry { IsEntry last.now d }
-    requires none { None (faulty last.now) d (length last.now) }
+    requires sound_after { None (faulty last.now) d (length last.now) }
     ensures { result ≡ faulty last.now d }
 {
     let end = entry_of(last, d);
@@ -94,8 +96,8 @@ fn fault_number(last: &[u16]) -> u32
 // Whether a device's root is not the lowest device whose branch holds it. Keeps the root of the current tree.
 fn any_wrong_root(last: &[u16], root: &[u16]) -> bool
     requires root_len { length root.now ≡ length last.now }
-    requires last_value { any (length last.now) (out_of_range last.now) ≡ false }
-    requires last_value_2 { any (length last.now) (overlaps last.now) ≡ false }
+    requires in_range { any (length last.now) (out_of_range last.now) ≡ false }
+    requires apart { any (length last.now) (overlaps last.now) ≡ false }
     ensures { result ≡ any (length last.now) (wrong_root last.now root.now) }
 {
     let mut tree = 1;

@@ -18,7 +18,7 @@ const ALL_WORD: u32 = 543_976_545;
 
 // A line that opens with a bracket: the four bytes after it, and a number further on with the index after it; that index is 0 where the line does
 // not open so.
-#[derive(Drop)]
+#[derive(Clone, Copy)]
 struct Start {
     value: u64,
     end: usize,

@@ -14,7 +14,7 @@ use text::Form;
 
 // A list of devices that has been read up to a line that is no device's: its form, where reading goes on after it, and its number; or the
 // number of the refusal and its line.
-#[derive(Drop)]
+#[derive(Clone, Copy)]
 pub enum Listed {
     Stopped(Form, Place),
     Refused(u32, u32),

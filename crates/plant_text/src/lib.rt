@@ -1,4 +1,6 @@
 // Reads plant text into lent tables.
+#![tactic(auto)]
+
 ghost use Rattle.std.specs.Prelude.{◌≡◌, ◌++◌, ◌-◌, length, take, replicate};
 ghost use Rattle.plant.specs.Plant.{plant};
 ghost use Rattle.index.specs.Index.{index};
@@ -30,7 +32,7 @@ mod lines;
 mod terms;
 
 // How many devices, terms and postings the lent tables have places for.
-#[derive(Drop)]
+#[derive(Clone, Copy)]
 pub struct Room {
     pub devices: usize,
     pub terms: usize,
@@ -38,7 +40,7 @@ pub struct Room {
 }
 
 // What a text comes to: the numbers of devices, terms and postings, or the number of the refusal and its line.
-#[derive(Drop)]
+#[derive(Clone, Copy)]
 pub enum Outcome {
     Made(usize, usize, usize),
     Refused(u32, u32),

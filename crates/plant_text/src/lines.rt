@@ -26,7 +26,7 @@ pub const ALL: u32 = 6;
 pub const CLOSE: u32 = 7;
 
 // Where reading goes on, at which line, with how many devices or postings.
-#[derive(Drop)]
+#[derive(Clone, Copy)]
 pub struct Place {
     pub at: usize,
     pub count: usize,
@@ -34,7 +34,7 @@ pub struct Place {
 }
 
 // What has been read to its end: where reading goes on; or the number of the refusal and its line.
-#[derive(Drop)]
+#[derive(Clone, Copy)]
 pub enum Ending {
     Ended(Place),
     Refused(u32, u32),

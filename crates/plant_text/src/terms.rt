@@ -19,7 +19,7 @@ use text::Form;
 
 // A plant that has been closed: the count of terms, and where what follows begins, with the count of postings; or the number of the refusal and
 // its line.
-#[derive(Drop)]
+#[derive(Clone, Copy)]
 pub enum Closing {
     Closed(usize, Place),
     Refused(u32, u32),
@@ -91,8 +91,8 @@ fn add_posting(
     last: &[u16],
     postings: &mut [u32],
 ) -> u32
-    requires kind_value { is_posting kind ≡ true }
-    requires count_in_bounds { (count ≤ length last.now) × (count ≤ most_devices) × (begin ≤ n) × (n ≤ room.postings) × (room.postings ≤ length postings.old) }
+    requires kind_is_posting { is_posting kind ≡ true }
+    requires counts_fit { (count ≤ length last.now) × (count ≤ most_devices) × (begin ≤ n) × (n ≤ room.postings) × (room.postings ≤ length postings.old) }
     requires sound_list { SoundList (take count last.now) (slice begin n postings.old) }
     ensures { Adds room last.now postings.old count begin n kind d postings.new result }
 {

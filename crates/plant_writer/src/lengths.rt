@@ -53,9 +53,9 @@ fn postings_length(postings: &[u32]) -> u32
 
 // The bytes of a whole text: those, and the plant's two lines.
 pub fn text_length(level: &[u8], terms: &[u16], postings: &[u32]) -> usize
-    requires level_len_bound { length level.now ≤ 65_535 }
-    requires terms_len_bound { length terms.now ≤ 8_192 }
-    requires postings_len_bound { length postings.now ≤ 1_048_576 }
+    requires few_devices { length level.now ≤ 65_535 }
+    requires few_terms { length terms.now ≤ 8_192 }
+    requires few_postings { length postings.now ≤ 1_048_576 }
     ensures { result ≡ whole_length level.now terms.now postings.now }
 {
     let devices = levels_length(level);

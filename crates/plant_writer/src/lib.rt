@@ -1,4 +1,6 @@
 // Writes plant text from accepted tables.
+#![tactic(auto)]
+
 mod lengths;
 mod put;
 mod tiers;
@@ -16,7 +18,7 @@ use put::put_unless;
 use tiers::too_deep;
 
 // What becomes of the tables: the length of their text, or the number of the refusal.
-#[derive(Drop)]
+#[derive(Clone, Copy)]
 pub enum Written {
     Made(usize),
     Refused(u32),

@@ -60,7 +60,7 @@ fn put_devices(
 ) -> usize
     requires nested { Nested last.now a e }
     requires tiered { Tiered last.now a e depth }
-    requires e_in_bounds { e ≤ length level.now }
+    requires levels_to_e { e ≤ length level.now }
     ensures { Puts out.old at (bytes_of (stretch last.now level.now a e)) out.new result }
 {
     let mut next = at;
@@ -140,7 +140,7 @@ fn put_plant(
 ) -> usize
     requires nested { Nested last.now 0 (length last.now) }
     requires tiered { Tiered last.now 0 (length last.now) 0 }
-    requires last_in_bounds { length last.now ≤ length level.now }
+    requires level_of_each { length last.now ≤ length level.now }
     ensures { Puts out.old 0 (text_of
         (plant last.now [] level.now)
         (index terms.now starts.now postings.now)) out.new result }
@@ -163,7 +163,7 @@ pub fn put_unless(
 ) -> usize
     requires nested { Nested last.now 0 (length last.now) }
     requires tiered { refused ≡ 0 → Tiered last.now 0 (length last.now) 0 }
-    requires last_in_bounds { length last.now ≤ length level.now }
+    requires level_of_each { length last.now ≤ length level.now }
     ensures { PutUnless refused out.old (text_of
         (plant last.now [] level.now)
         (index terms.now starts.now postings.now)) out.new result }

@@ -18,7 +18,7 @@ pub fn end_of(last: &[u16], i: usize) -> usize
 pub fn too_deep(last: &[u16], a: usize, e: usize, depth: usize) -> bool
     requires nested { Nested last.now a e }
     requires depth { Depth last.now a e depth }
-    requires depth_bound { depth ≤ 32 }
+    requires within_32 { depth ≤ 32 }
     ensures { Deep last.now a e result }
 {
     if depth + (e - a) <= 32 {

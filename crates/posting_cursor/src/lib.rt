@@ -1,12 +1,14 @@
 // A cursor on a list of postings (document 01's walker), which goes forward. The step is `first_at_least`; the functions over the cursor are
-// thin, hand on what it answers, and are proved by hand.
+// thin, and hand on what it answers.
+#![tactic(auto)]
+
 ghost use Rattle.std.specs.Prelude.{◌≡◌};
 ghost use Rattle.index.specs.Forward.{forward, step};
 ghost use Rattle.posting_cursor.specs.Cursor.{stepped, forwarded};
 
 use index::{Step, first_at_least};
 
-#[derive(Drop)]
+#[derive(Clone, Copy)]
 pub struct PostingCursor<'a> {
     pub list: &'a [u32],
     pub position: usize,
@@ -42,7 +44,7 @@ impl<'a> PostingCursor<'a> {
     }
 }
 
-// The same of a list and a position. Whoever calls it needs no walk.
+// The same of a list and a position.
 pub fn seek_from(list: &[u32], position: usize, device: u32) -> Step
     ensures { result ≡ step list.now position device }
 {
@@ -50,7 +52,7 @@ pub fn seek_from(list: &[u32], position: usize, device: u32) -> Step
     seek(cursor, device)
 }
 
-// A cursor at the start, moved forward to two devices in turn, by the method: the second step. Whoever calls it needs no walk.
+// A cursor at the start, moved forward to two devices in turn, by the method: the second step.
 pub fn seek_twice(list: &[u32], first: u32, second: u32) -> Step
     ensures { result ≡ step list.now (forward list.now 0 first) second }
 {

@@ -1,4 +1,6 @@
 // The query, the level codes that it wants, and its refusals.
+#![tactic(auto)]
+
 ghost use Rattle.std.specs.Prelude.{◌≡◌};
 ghost use Rattle.query.specs.Query.{empty, with_required, with_forbidden, with_levels, with_start, with_budget};
 
@@ -13,7 +15,7 @@ pub use refusals::{common_refusal, refusal};
 pub use terms::{Terms, terms_of};
 
 // Which level codes a query wants: any, true levels only, or a range of them (document 01: its window). A code of 0 or 255 is no true level.
-#[derive(Drop)]
+#[derive(Clone, Copy)]
 pub enum Levels {
     Any,
     TrueOnly,
@@ -21,7 +23,7 @@ pub enum Levels {
 }
 
 // A query (document 01: an ask).
-#[derive(Drop)]
+#[derive(Clone, Copy)]
 pub struct Query {
     pub required: Terms,
     pub forbidden: Terms,

@@ -6,7 +6,7 @@ use crate::Query;
 use integers::least;
 
 // Eight places, of which the first `count` are used.
-#[derive(Drop)]
+#[derive(Clone, Copy)]
 pub struct Terms {
     pub places: [u32; 8],
     pub count: usize,

@@ -1,4 +1,6 @@
 // Reads query text (document 01: ask text) into a query.
+#![tactic(auto)]
+
 ghost use Rattle.std.specs.Prelude.{◌≡◌, false, ◌&&◌, eqb};
 ghost use Rattle.laws.specs.Limits.{largest_number};
 ghost use Rattle.text.specs.inner.Finding.{found_at};
@@ -39,7 +41,7 @@ const FIRST_STAGE: u64 = OPEN as u64;
 const CLOSED: u64 = CLOSE as u64 + 1;
 
 // What a text comes to: the refusal, its line and the empty query, or 0, 0 and the query.
-#[derive(Drop)]
+#[derive(Clone, Copy)]
 pub struct QueryRead {
     pub refusal: u32,
     pub line: u32,
@@ -48,7 +50,7 @@ pub struct QueryRead {
 
 // What the lines so far make: the lowest kind that the next line may be of, and the query. A stage is wider than a kind, so that each kind has
 // one after it.
-#[derive(Drop)]
+#[derive(Clone, Copy)]
 struct Draft {
     stage: u64,
     query: Query,

@@ -10,7 +10,7 @@ use crate::count::counted_of;
 use index_check::{outline_row, outside_in};
 
 // The lowest refusal number that applies, or 0, and how many postings are left where none does.
-#[derive(Drop)]
+#[derive(Clone, Copy)]
 pub struct Judged {
     pub refusal: u32,
     pub left: usize,

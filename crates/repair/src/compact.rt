@@ -12,7 +12,7 @@ use index::start_at;
 use integers::{u16_to_u32, u32_to_usize};
 
 // The index after the postings that are kept, and the one after what is reported.
-#[derive(Drop)]
+#[derive(Clone, Copy)]
 pub struct Filled {
     pub postings: usize,
     pub report: usize,
@@ -60,7 +60,7 @@ fn put(
     posting: u32,
 ) -> Filled
     requires postings_in_bounds { filled.postings < length postings.old }
-    requires le_postings { fresh ≡ false → 1 ≤ filled.postings }
+    requires one_is_kept { fresh ≡ false → 1 ≤ filled.postings }
     requires report_in_bounds { fresh ≡ false → filled.report + 3 ≤ length report.old }
     ensures { Put postings.old report.old filled fresh term posting postings.new report.new result }
 {
@@ -93,9 +93,9 @@ fn compact_list(
     report: &mut [u32],
 ) -> Filled
     requires held { Held last.now }
-    requires postings_le_start { (from.postings ≤ start) × (start ≤ end) × (end ≤ length postings.old) }
+    requires in_order { (from.postings ≤ start) × (start ≤ end) × (end ≤ length postings.old) }
     requires fit { Fit (length last.now) (slice start end postings.old) }
-    requires postings_in_bounds { from.report + 3 * length (dropped last.now (slice start end postings.old)) ≤ length report.old }
+    requires report_in_bounds { from.report + 3 * length (dropped last.now (slice start end postings.old)) ≤ length report.old }
     ensures { Compacting last.now postings.old report.old start end term
         from.postings from.report end postings.new report.new result }
 {
@@ -128,7 +128,7 @@ pub fn compact(
     report: &mut [u32],
 ) -> Filled
     requires repairable { Repairable last.now (index terms.now starts.old postings.old) }
-    requires terms_in_bounds { 3 * length (dropped_of last.now (index terms.now starts.old postings.old) (length terms.now)) ≤ length report.old }
+    requires report_in_bounds { 3 * length (dropped_of last.now (index terms.now starts.old postings.old) (length terms.now)) ≤ length report.old }
     ensures { Compacted last.now (index terms.now starts.old postings.old)
         report.old (length terms.now) starts.new postings.new report.new result }
 {

@@ -11,7 +11,7 @@ use index::{list_at, reach_by};
 use integers::{u16_to_usize, u32_to_usize};
 
 // Whether a posting is astray: its device is out of range, or below that of the posting before it. If none is, how many postings are kept.
-#[derive(Drop)]
+#[derive(Clone, Copy)]
 pub struct Counted {
     pub astray: bool,
     pub kept: usize,

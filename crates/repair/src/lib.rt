@@ -1,4 +1,6 @@
 // The repair of an index whose lists have several postings for a device, or redundant ones.
+#![tactic(auto)]
+
 mod checks;
 mod compact;
 mod count;
@@ -12,7 +14,7 @@ use crate::compact::compact;
 use index::clear;
 
 // What becomes of an index: how many postings were dropped and how many are left, or the number of the refusal.
-#[derive(Drop)]
+#[derive(Clone, Copy)]
 pub enum Repaired {
     Made(usize, usize),
     Refused(u32),

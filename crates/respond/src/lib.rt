@@ -1,4 +1,6 @@
 // The whole of what the program prints, as a function of the two texts that it reads.
+#![tactic(auto)]
+
 mod write;
 
 ghost use Rattle.plant.specs.Plant.{plant};

@@ -76,22 +76,22 @@ end_same : {xs ys : List ℕ} {p m n s t : ℕ} {b : Bool} {cs : List Cursor} �
     (record { listed = ys; position = p; counts = counts n t; short = b; cursors = cs })
 end_same {p} {b} {cs} x m s = ap₂ (λ l c. record { listed = l; position = p; counts = c; short = b; cursors = cs }) x (ap₂ counts m s)
 
-first_of : (n k : ℕ) → ◌≡◌ {A = ℕ} (get_or (replicate n 0) k 0) 0
-first_of zero k = refl
-first_of (suc n) zero = refl
-first_of (suc n) (suc k) = first_of n k
+first_zero : (n k : ℕ) → ◌≡◌ {A = ℕ} (get_or (replicate n 0) k 0) 0
+first_zero zero k = refl
+first_zero (suc n) zero = refl
+first_zero (suc n) (suc k) = first_zero n k
 
 -- the lists of required terms and then those of forbidden ones: the cursors that a run begins with
 module _ (list : ℕ → List ℕ) (n k : ℕ) where
   begin_forbidden : (i : ℕ) (ts : List ℕ) → k ≤ i → cursors k (replicate n 0) i (map list ts) ≡ placed list forbidden ts
   unfolding cursors
   begin_forbidden i [] h = refl
-  begin_forbidden i (t ∷ ts) h = rw (le-ltb i k h, first_of n i, begin_forbidden (suc i) ts (omega arith))
+  begin_forbidden i (t ∷ ts) h = rw (le-ltb i k h, first_zero n i, begin_forbidden (suc i) ts (omega arith))
 
   begin_from : (i : ℕ) (rs fs : List ℕ) → k ≡ i + length rs → cursors k (replicate n 0) i (map list (rs ++ fs)) ≡ placed list required rs ++ placed list forbidden fs
   unfolding cursors
   begin_from i [] fs h = begin_forbidden i fs (omega arith)
-  begin_from i (t ∷ ts) fs h = rw (lt-ltb i k (omega arith), first_of n i, begin_from (suc i) ts fs (omega arith))
+  begin_from i (t ∷ ts) fs h = rw (lt-ltb i k (omega arith), first_zero n i, begin_from (suc i) ts fs (omega arith))
 
 pub begin_is : (list : ℕ → List ℕ) (rs fs : List ℕ) {k : ℕ} → k ≡ length rs → begin k (map list (rs ++ fs)) ≡ placed list required rs ++ placed list forbidden fs
 begin_is list rs fs {k} e = begin_from list most_cursors k 0 rs fs (omega arith)
@@ -100,7 +100,7 @@ valid_first : {last : List ℕ} {ls : List (List ℕ)} → Lists last ls → Val
 valid_first v = record {
   long = refl;
   few = v.few;
-  each = λ k h. rw (first_of most_cursors k) (record { sound = v.each k h; within = omega arith });
+  each = λ k h. rw (first_zero most_cursors k) (record { sound = v.each k h; within = omega arith });
 }
 
 -- no cursor has more postings than there are devices

@@ -44,7 +44,7 @@ fn target(last: &[u16], root: &[u16], p: u32, q: u32) -> u32
 
 // A cursor brought to a position: its index, the moves made so far and how many postings they passed over, whether its posting carries to the
 // position, and the last position up to which that stays so without a move; or that the next move would exceed the budget.
-#[derive(Drop)]
+#[derive(Clone, Copy)]
 pub struct CursorAt {
     pub at: usize,
     pub moves: usize,

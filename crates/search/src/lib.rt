@@ -1,4 +1,6 @@
 // The search: the devices that match a query, by document 01's cursor steps.
+#![tactic(auto)]
+
 ghost use Rattle.plant.specs.Plant.{plant};
 ghost use Rattle.index.specs.Index.{index};
 ghost use Rattle.two_indexes.specs.Indexes.{indexes};
@@ -15,7 +17,7 @@ mod run;
 
 // What a search answers: the refusal and zeros, or 0, the number of devices listed, the position, the postings that the moves passed over without
 // landing, and the moves.
-#[derive(Drop)]
+#[derive(Clone, Copy)]
 pub struct Answer {
     pub refusal: u32,
     pub count: u32,

@@ -13,7 +13,7 @@ use query::{Levels, wants};
 
 // How a round at a position p ends: every cursor accepts each position from p to `to`; or the position is set to the one after `to`; or the
 // next move would exceed the budget. The moves made so far, and how many postings they passed over.
-#[derive(Drop)]
+#[derive(Clone, Copy)]
 pub struct RoundEnd {
     pub moves: usize,
     pub passed: usize,
@@ -133,7 +133,7 @@ fn list(
 }
 
 // How many devices a run listed, how far it came, how many postings its moves passed over, and the moves made.
-#[derive(Drop)]
+#[derive(Clone, Copy)]
 pub struct Listing {
     pub count: u32,
     pub position: u32,

@@ -12,7 +12,7 @@ use borrow.Author.Tests.{lt-ltb, eq-eqb, eqb-true, eqb-false}
 use Rattle.laws.proofs.Tests.{and_yes, not_yes}
 use Rattle.laws.proofs.Cases.{by_order}
 use Rattle.text.specs.Lines.{begins, line_at, whole_at, next_at}
-use Rattle.text.specs.Decimal.{number, digits, behind, up_to, number_at}
+use Rattle.text.specs.Decimal.{digits, behind, up_to, number_at}
 use Rattle.text.specs.Patterns.{any_number, fit, fit_after, fitting, capped_fit}
 use Rattle.text.specs.Forms.{Row, plain, fitted, form}
 use Rattle.text.specs.inner.Finding.{found_at}

@@ -1,4 +1,6 @@
 // What all texts share: lines, numbers and forms, as they are read.
+#![tactic(auto)]
+
 ghost use Rattle.std.specs.Prelude.{◌≡◌, cond, [], ◌∷◌, ◌+◌, ◌-◌, ◌*◌, ◌<◌, ◌≤◌, eqb, length, get_or, drop};
 ghost use Rattle.text.specs.Lines.{begins, bytes_before, line_at, whole_at, next_at};
 ghost use Rattle.text.specs.Decimal.{digit, up_to, number_at};
@@ -12,14 +14,14 @@ const UNFINISHED: u32 = 0;
 const OTHER: u32 = 1;
 
 // A number in a text: its value, one past the limit where it is above that, and where it ends: where it would begin, if none is there.
-#[derive(Drop)]
+#[derive(Clone, Copy)]
 pub struct NumberAt {
     pub value: u64,
     pub end: usize,
 }
 
 // Whether a line fits a pattern, with its last number and the one before it.
-#[derive(Drop)]
+#[derive(Clone, Copy)]
 pub struct Fit {
     pub before: u64,
     pub number: u64,
@@ -27,7 +29,7 @@ pub struct Fit {
 }
 
 // The kind of a line, with its last number and the one before it.
-#[derive(Drop)]
+#[derive(Clone, Copy)]
 pub struct Form {
     pub before: u64,
     pub number: u64,
@@ -35,14 +37,14 @@ pub struct Form {
 }
 
 // A line's form, and where the next line begins.
-#[derive(Drop)]
+#[derive(Clone, Copy)]
 pub struct Found {
     pub form: Form,
     pub next: usize,
 }
 
 // A line that fits a pattern so far: the numbers that it has had, and where it goes on.
-#[derive(Drop)]
+#[derive(Clone, Copy)]
 struct Scan {
     before: u64,
     number: u64,

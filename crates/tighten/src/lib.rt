@@ -1,4 +1,6 @@
 // The tightening of an index: each list becomes the smallest with which the same devices carry its term.
+#![tactic(auto)]
+
 mod list;
 mod lists;
 
@@ -11,7 +13,7 @@ use index::clear;
 use index_check::check;
 
 // What becomes of an index: how many postings are left, or the number of the refusal.
-#[derive(Drop)]
+#[derive(Clone, Copy)]
 pub enum Tightened {
     Made(usize),
     Refused(u32),

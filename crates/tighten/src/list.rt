@@ -14,7 +14,7 @@ use index::reach_by;
 use integers::{u16_to_usize, u32_to_usize};
 
 // A posting of the tight list, how many postings of the list it takes the place of, and up to where devices are known to carry the term.
-#[derive(Drop)]
+#[derive(Clone, Copy)]
 pub struct Lead {
     pub posting: u32,
     pub taken: usize,
@@ -22,7 +22,7 @@ pub struct Lead {
 }
 
 // Postings that follow one another: how many, and up to where each device carries the term.
-#[derive(Drop)]
+#[derive(Clone, Copy)]
 pub struct Run {
     pub count: usize,
     pub until: usize,
@@ -174,7 +174,7 @@ fn gather(last: &[u16], list: &[u32], d: usize, end: usize, until: usize) -> Lea
 fn lead_of(last: &[u16], list: &[u32], until: usize) -> Lead
     requires forest { Forest last.now }
     requires apart { Apart last.now list.now }
-    requires list_nonzero { 0 < length list.now }
+    requires list_not_empty { 0 < length list.now }
     requires known { Known last.now list.now until }
     ensures { Leads last.now list.now result }
 {

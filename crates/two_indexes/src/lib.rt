@@ -1,4 +1,6 @@
 // Two indexes: the first for terms below 32,768, the second for terms from there up. Their check, and the list of a term in them.
+#![tactic(auto)]
+
 mod lookup;
 mod refusals;
 

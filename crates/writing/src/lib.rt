@@ -1,4 +1,6 @@
 // Words and numbers, written straight into their places in a buffer.
+#![tactic(auto)]
+
 ghost use Rattle.std.specs.Prelude.{◌≡◌, ◌+◌, ◌%◌, ◌≤◌, length};
 ghost use Rattle.text.specs.Decimal.{numeral, WrittenAs};
 ghost use Rattle.writing.specs.Writing.{Writes};

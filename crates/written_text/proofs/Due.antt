@@ -22,7 +22,7 @@ use Rattle.text.specs.Forms.{plain, with_number}
 use Rattle.plant_text.specs.Form.{plant_line, device_line, term_line, own_line, all_line, close_line}
 use Rattle.written_text.specs.Forms.{posting_form}
 use Rattle.written_text.specs.Refusals.{tiers}
-use Rattle.written_text.proofs.Written.{Written, plant, device as device-of-level, term, own, all, close}
+use Rattle.written_text.proofs.Written.{Written, plant, device as device_of_level, term, own, all, close}
 use Rattle.written_text.proofs.Taking.{Takes, none, more, posting_next}
 use Rattle.written_text.proofs.Ahead.{Ext, ext_same, ext_back, ext_at, Gaps, Kept, kept_all, gaps_open, kept_open, kept_before, gaps_close, kept_close, tiers_open}
 
@@ -135,7 +135,8 @@ module _ (ds : List ℕ) (P : Plant) (I : Index) where
         };
         back = λ m a.
             let e = rw z at a.rest in
-            let k = kept_before P.last ds n refl f.0 m.plant.last e.0 in
+            let o = subst (λ (x : ℕ). Kept (P.last ++ (0 ∷ [])) m.plant.last x ((n + 1) ∷ ds) x) z a.rest.0 in
+            let k = kept_before P.last ds n refl f.0 m.plant.last o in
             let t = ext_at P.level v a.level n 0 i.levels in
             record {
               ahead = record {
@@ -150,7 +151,7 @@ module _ (ds : List ℕ) (P : Plant) (I : Index) where
                       (λ w. let x : d ≡ n + 1 = omega arith in rw x (tiers_open P.last m.plant.last ds n f.0 k s)),
                 );
               };
-              is_due = device_due m.plant m.index v n P.last ds (kept_open P.last ds n refl f.0 m.plant.last e.0) e.1 t.1;
+              is_due = device_due m.plant m.index v n P.last ds (kept_open P.last ds n refl f.0 m.plant.last o) e.1 t.1;
             };
       }
 
@@ -308,13 +309,13 @@ not_here e = absurd (true≢false (sym e))
 module _ (r : Room) (P : Plant) (I : Index) where
   does : (s : Stage) (ds : List ℕ) {f : Form} → Written f → Passed r (mk s ds P I) f → Inv s ds P I → Does s ds P I f
   does start ds plant p i = at_plant ds P I i
-  does start ds (device-of-level v) p i = not_here p.here
+  does start ds (device_of_level v) p i = not_here p.here
   does start ds (term t) p i = not_here p.here
   does start ds (own d) p i = not_here p.here
   does start ds (all d) p i = not_here p.here
   does start ds close p i = not_here p.here
   does devices ds plant p i = not_here p.here
-  does devices ds (device-of-level v) p i = at_device ds P I r v p i
+  does devices ds (device_of_level v) p i = at_device ds P I r v p i
   does devices [] (term t) p i = first_term P I t i
   does devices (d ∷ ds) (term t) p i = not_here p.here
   does devices ds (own d) p i = not_here p.here
@@ -322,13 +323,13 @@ module _ (r : Room) (P : Plant) (I : Index) where
   does devices [] close p i = close_plant P I i
   does devices (d ∷ ds) close p i = close_device P I d ds i
   does terms ds plant p i = not_here p.here
-  does terms ds (device-of-level v) p i = not_here p.here
+  does terms ds (device_of_level v) p i = not_here p.here
   does terms ds (term t) p i = at_term ds P I t i
   does terms ds (own d) p i = not_here p.here
   does terms ds (all d) p i = not_here p.here
   does terms ds close p i = close_terms ds P I i
   does postings ds plant p i = not_here p.here
-  does postings ds (device-of-level v) p i = not_here p.here
+  does postings ds (device_of_level v) p i = not_here p.here
   does postings ds (term t) p i = not_here p.here
   does postings ds (own d) p i = at_posting ds P I d false i
   does postings ds (all d) p i = at_posting ds P I d true i

@@ -1,0 +1,11 @@
+-- `query_text::read` meets its contract: at each turn, what the whole text comes to is what the rest of it comes to.
+use Prim.Native.Nat.{◌-◌}
+use lib.ListN.{length}
+use Rattle.query_text.proofs.Turns.{Reads}
+use Rattle.query_text.proofs.read.Given as goal
+
+abbrev pub invariant-loop-draft : goal.invariant-loop-draft
+invariant-loop-draft l = Reads l.text l.draft l.at l.line
+
+abbrev pub decreases-loop-draft : goal.decreases-loop-draft
+decreases-loop-draft l = length l.text - l.at
