@@ -1,4 +1,6 @@
 // Reads the plant from `plant.txt` in the working folder and the query from standard input, and prints the answer.
-fn main() {
-    program::run(libc::STDIN_FILENO, b"plant.txt");
+#![tactic(auto)]
+
+fn main(rt: HostRuntime) {
+    program::run(&rt, &mut rt.stdin(), "plant.txt", &mut rt.stderr());
 }
