@@ -1,5 +1,7 @@
 // The operations for programs in C and Rust: numbers and slices only, each with the contract of the operation that it hands on.
 // include/plant_search.h declares them.
+#![tactic(auto)]
+
 ghost use Rattle.std.specs.Prelude.{◌≡◌};
 ghost use Rattle.plant.specs.Plant.{plant};
 ghost use Rattle.index.specs.Index.{index, tables_refusal};

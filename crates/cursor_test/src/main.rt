@@ -1,7 +1,10 @@
 // Steps over a sorted list and an unsorted one, from the start, from within, from the end and from past it, and prints where each step lands and
-// how many postings it passed over. No local holds a cursor, so every function is covered.
+// how many postings it passed over.
+#![tactic(auto)]
+
 use index::Step;
-use libc::STDOUT_FILENO;
+
+const STDOUT_FILENO: i32 = 1;
 
 // Prints the end of a line, `: index passed n`.
 fn answer(step: Step) {

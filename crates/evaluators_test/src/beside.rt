@@ -3,7 +3,9 @@ use crate::cells::at8;
 use crate::numbers::{least, next, number, plus, wide8};
 use crate::slow::listing;
 use io::write_all;
-use libc::STDOUT_FILENO;
+
+const STDOUT_FILENO: i32 = 1;
+
 use plant_text::Outcome;
 use query::Query;
 

@@ -2,10 +2,10 @@
 use crate::cells::{at16, front16, front32};
 use crate::indexes::{Index, joined};
 use crate::numbers::{least, next};
+use crate::plain_steps::walk;
 use crate::refusals::refusal;
 use crate::slow::listing;
 use crate::spoil::Lengths;
-use crate::steps::walk;
 use query::{Levels, Query};
 use search::{Answer, search};
 

@@ -8,7 +8,8 @@ use crate::random::draw;
 use crate::spoil::Damage;
 use crate::{make, spoil};
 use io::{print_decimal, write_all};
-use libc::STDOUT_FILENO;
+
+const STDOUT_FILENO: i32 = 1;
 
 // The rows in the order in which they are tested, from 1 on: 1 to 9, 55 to 59, 15, 10 to 14. 0 for any other number.
 fn row_at(i: u32) -> u32 {

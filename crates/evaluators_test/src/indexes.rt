@@ -3,7 +3,7 @@ use crate::cells::{at16, at32, put16, put32};
 use crate::numbers::{number, plus, sum};
 
 // The tables of an index, and how many entries of each are lent.
-#[derive(Drop)]
+#[derive(Clone, Copy)]
 pub struct Index {
     pub terms: [u16; 16],
     pub starts: [u32; 64],

@@ -2,6 +2,8 @@
 // devices, and are proved to be safe and to end, no more: what they say is compared with the search when this program runs.
 // First document 01's rows as texts, each answer beside what the slow evaluator lists. Then small plants, pairs of indexes and queries from a
 // fixed seed, the search beside the slow evaluator, the plain steps and the plain refusals.
+#![tactic(auto)]
+
 mod beside;
 mod cells;
 mod compare;
@@ -9,12 +11,12 @@ mod crosscheck;
 mod indexes;
 mod make;
 mod numbers;
+mod plain_steps;
 mod random;
 mod refusals;
 mod rows;
 mod slow;
 mod spoil;
-mod steps;
 
 fn main() {
     rows::print_rows();

@@ -4,7 +4,9 @@
 use crate::beside;
 use crate::numbers::plus;
 use io::write_all;
-use libc::STDOUT_FILENO;
+
+const STDOUT_FILENO: i32 = 1;
+
 use respond::respond;
 
 fn print(label: &[u8], query: &[u8], answer: &[u8]) {

@@ -6,7 +6,7 @@ use query::{Levels, Query};
 
 // The row that each place is damaged by, 0 for none: the device tables by 1 to 4, an index by 5 to 9, what is in which index by 15, the query by
 // 10 to 14.
-#[derive(Drop)]
+#[derive(Clone, Copy)]
 pub struct Damage {
     pub plant: u32,
     pub first: u32,
@@ -38,7 +38,7 @@ pub fn by_rows(row: u32, other: u32) -> Damage {
 }
 
 // How many entries of the device tables and of the answer list are lent.
-#[derive(Drop)]
+#[derive(Clone, Copy)]
 pub struct Lengths {
     pub last: usize,
     pub root: usize,

@@ -1,5 +1,5 @@
 // Words, numbers and tables of numbers, printed.
-use libc::STDOUT_FILENO;
+const STDOUT_FILENO: i32 = 1;
 
 pub fn say(words: &[u8]) {
     io::write_all(STDOUT_FILENO, words);

@@ -1,7 +1,11 @@
 // Reads texts and prints what comes of them: document 01's plant P, an example of each refusal, 32 and 33 tiers, and tables with exactly
 // enough room and with one place too few.
+#![tactic(auto)]
+
 use integers::least;
-use libc::STDOUT_FILENO;
+
+const STDOUT_FILENO: i32 = 1;
+
 use plant_text::Outcome;
 
 fn say(words: &[u8]) {

@@ -1,7 +1,8 @@
 // Words, numbers and outcomes, printed.
 ghost use Rattle.std.specs.Prelude.{◌≤◌};
 
-use libc::STDOUT_FILENO;
+const STDOUT_FILENO: i32 = 1;
+
 use plant_writer::Written;
 
 pub fn say(words: &[u8]) {

@@ -1,8 +1,13 @@
 // Reads query texts and prints what each comes to: document 01's lines, each refusal, and what lies at the limits. Standard input has
 // them: a line with a name, the text, and a `~`.
+#![tactic(auto)]
+
 ghost use Rattle.std.specs.Prelude.{◌≤◌, ◌<◌, length};
 
-use libc::{STDIN_FILENO, STDOUT_FILENO};
+const STDIN_FILENO: i32 = 0;
+
+const STDOUT_FILENO: i32 = 1;
+
 use query::{Levels, Query, Terms};
 
 fn print(bytes: &[u8]) {

@@ -1,9 +1,13 @@
 // A smallest text for each number that a plant text, a query text or a query in text can be refused by, with its answer. Numbers 1 to 9, 10
 // and 14 cannot arise from text, nor 55 to 59, since the second index is handed in empty.
+#![tactic(auto)]
+
 mod make;
 
 use io::write_all;
-use libc::STDOUT_FILENO;
+
+// Standard output.
+const STDOUT_FILENO: i32 = 1;
 
 fn print_answer(plant: &[u8], query: &[u8]) {
     let mut out = [0u8; 16384];

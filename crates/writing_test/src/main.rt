@@ -1,5 +1,7 @@
 // Writes numbers and words into a buffer of 22 dots, at its front, at its end and where there is no room, and prints it with the count.
-use libc::STDOUT_FILENO;
+#![tactic(auto)]
+
+const STDOUT_FILENO: i32 = 1;
 
 fn print(out: &[u8], count: usize) {
     io::write_all(STDOUT_FILENO, out);
