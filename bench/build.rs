@@ -1,15 +1,15 @@
-//! Finds the archive that `rt staticlib c_api` makes, and the two peers (packages libroaring-dev and libsqlite3-dev). Where
+//! Finds the archive that `rt lib` makes in crates/c_api, and the two peers (packages libroaring-dev and libsqlite3-dev). Where
 //! PLANT_SEARCH_BEFORE names the archive of landing 12, its search and today's are linked apart too, to be timed side by side.
 use std::path::Path;
 use std::process::Command;
 
 fn main() {
     let here = std::env::var("CARGO_MANIFEST_DIR").unwrap();
-    let folder = Path::new(&here).join("../target/staticlib");
+    let folder = Path::new(&here).join("../crates/c_api/out");
     let archive = folder.join("libc_api.a");
     println!("cargo:rerun-if-changed={}", archive.display());
     if !archive.exists() {
-        panic!("there is no target/staticlib/libc_api.a: run `rt staticlib c_api` at the root of the repository first");
+        panic!("there is no crates/c_api/out/libc_api.a: run `rt lib` in crates/c_api first");
     }
     println!("cargo:rustc-link-search=native={}", folder.display());
     println!("cargo:rustc-link-lib=static=c_api");

@@ -1,4 +1,4 @@
-/* The plant search for C and Rust: the operations of libc_api.a, which `rt staticlib c_api` makes.
+/* The plant search for C and Rust: the operations of libc_api.a, which `rt lib` in crates/c_api makes.
  *
  * A list is passed as a pointer and its number of entries; an array of fixed length as a pointer. A pointer is not null, and
  * aligned to its type, also where the list is empty. Lists that a call writes to overlap no other list of that call.
