@@ -12,7 +12,7 @@ use Rattle.laws.proofs.Tests.{flags}
 use Rattle.laws.proofs.Cases.{by_order}
 use Rattle.plant.specs.Plant.{Plant, size}
 use Rattle.index.specs.Postings.{posting}
-use Rattle.index.specs.Index.{Index, index, count}
+use Rattle.index.specs.Index.{Index, count}
 use Rattle.index.proofs.Lists.{device_of, shared_of}
 use Rattle.plant_text.specs.PlantText.{Stage, start, devices, terms, postings, closed, State, nothing, line_refusal, next}
 use Rattle.plant_text.specs.declared.Room.{Room}

@@ -13,7 +13,7 @@ use Rattle.laws.specs.Tables.{entry}
 use Rattle.laws.proofs.Tests.{tests, flags}
 use Rattle.laws.proofs.Cases.{by_order, either}
 use Rattle.laws.proofs.Search.{none_any, any_none}
-use Rattle.plant.specs.Plant.{Plant, plant, size}
+use Rattle.plant.specs.Plant.{Plant, size}
 use Rattle.index.specs.Postings.{posting, device, shared, misplaced, shadowed, redundant}
 use Rattle.index.specs.Index.{Index, index, count, list, tables_refusal}
 use Rattle.index.proofs.Lists.{ranged, rises}

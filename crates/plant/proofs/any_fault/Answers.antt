@@ -1,11 +1,7 @@
 -- `plant::any_fault` meets its contract: no branch after d is at fault.
-use Prim.Native.Nat.{◌≤◌}
 use mathlib.Core.Path.{sym, ◌∙◌}
-use lib.ListN.{length}
-use borrow.Author.Rules.{rules}
 use native.Mathlib.Omega.{arith}
-use Rattle.plant.specs.inner.Branches.{faulty}
-use Rattle.laws.proofs.Search.{None, none_yet, none_down, any_found, any_none}
+use Rattle.laws.proofs.Search.{any_found, any_none}
 use Rattle.plant.proofs.any_fault.Goals as goal
 
 pub returns-then-faulty_at : goal.returns-then-faulty_at

@@ -1,11 +1,8 @@
 -- `plant::any_fault` meets its contract: no branch after d is at fault.
 use Prim.Native.Nat.{◌≤◌}
-use mathlib.Core.Path.{sym, ◌∙◌}
 use lib.ListN.{length}
-use borrow.Author.Rules.{rules}
-use native.Mathlib.Omega.{arith}
 use Rattle.plant.specs.inner.Branches.{faulty}
-use Rattle.laws.proofs.Search.{None, none_yet, none_down, any_found, any_none}
+use Rattle.laws.proofs.Search.{None}
 use Rattle.plant.proofs.any_fault.Given as goal
 
 abbrev pub invariant-loop-d : goal.invariant-loop-d

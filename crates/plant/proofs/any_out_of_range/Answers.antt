@@ -1,12 +1,9 @@
 -- `plant::any_out_of_range` meets its contract: no device up to d is out of range.
-use Prim.Native.Nat.{◌+◌, ◌-◌, ◌≤◌}
-use lib.ListN.{length}
-use borrow.Author.Rules.{rules}
+use Prim.Native.Nat.{◌+◌}
 use native.Mathlib.Omega.{arith}
-use Rattle.plant.specs.Plant.{out_of_range}
 use Rattle.laws.proofs.Tests.{tests, flags}
 use Rattle.laws.proofs.Cases.{cases}
-use Rattle.laws.proofs.Search.{None, none_yet, none_up, any_found, any_none}
+use Rattle.laws.proofs.Search.{any_found, any_none}
 use Rattle.plant.proofs.any_out_of_range.Goals as goal
 
 pub returns-then-end-d : goal.returns-then-end-d

@@ -1,12 +1,8 @@
 -- `plant::any_out_of_range` meets its contract: no device up to d is out of range.
-use Prim.Native.Nat.{◌+◌, ◌-◌, ◌≤◌}
+use Prim.Native.Nat.{◌-◌, ◌≤◌}
 use lib.ListN.{length}
-use borrow.Author.Rules.{rules}
-use native.Mathlib.Omega.{arith}
 use Rattle.plant.specs.Plant.{out_of_range}
-use Rattle.laws.proofs.Tests.{tests, flags}
-use Rattle.laws.proofs.Cases.{cases}
-use Rattle.laws.proofs.Search.{None, none_yet, none_up, any_found, any_none}
+use Rattle.laws.proofs.Search.{None}
 use Rattle.plant.proofs.any_out_of_range.Given as goal
 
 abbrev pub invariant-loop-d : goal.invariant-loop-d

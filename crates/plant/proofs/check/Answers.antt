@@ -3,7 +3,6 @@ use mathlib.Core.Path.{◌≡◌, sym, ◌∙◌}
 use Prim.Native.Nat.{ℕ}
 use mathlib.Core.List.{List}
 use mathlib.Core.Bool.{Bool, true, false}
-use borrow.Author.Rules.{rules}
 use Rattle.laws.specs.Rows.{pick}
 use Rattle.laws.specs.Search.{any}
 use Rattle.plant.specs.Plant.{Plant, plant, size, uneven, out_of_range, overlaps, plant_refusal}

@@ -1,10 +1,6 @@
 -- `plant::faulty_at` meets its contract: between d and the next child, every branch ends within d's branch.
-use Prim.Native.Nat.{◌+◌, ◌-◌}
-use native.Mathlib.Omega.{arith}
 use borrow.Author.Rules.{rules}
-use Rattle.laws.proofs.Cases.{cases}
-use Rattle.laws.proofs.Tests.{tests, flags}
-use Rattle.plant.proofs.Branches.{Children, outside_found, children_start, children_found, child_own, children_turn, children_end}
+use Rattle.plant.proofs.Branches.{children_found, children_turn, children_end}
 use Rattle.plant.proofs.faulty_at.Goals as goal
 
 pub returns-then-end-child_end : goal.returns-then-end-child_end

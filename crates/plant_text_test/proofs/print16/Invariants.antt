@@ -1,7 +1,5 @@
 -- `plant_text_test::print16` reads within its table.
 use Prim.Native.Nat.{◌≤◌, ◌-◌}
-use borrow.Author.Rules.{rules}
-use native.Mathlib.Omega.{arith}
 use lib.ListN.{length}
 use Rattle.plant_text_test.proofs.print16.Given as goal
 

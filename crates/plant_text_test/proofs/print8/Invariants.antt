@@ -1,7 +1,5 @@
 -- `plant_text_test::print8` reads within its table.
 use Prim.Native.Nat.{◌≤◌, ◌-◌}
-use borrow.Author.Rules.{rules}
-use native.Mathlib.Omega.{arith}
 use lib.ListN.{length}
 use Rattle.plant_text_test.proofs.print8.Given as goal
 

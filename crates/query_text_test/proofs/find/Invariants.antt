@@ -1,7 +1,6 @@
 -- `query_text_test::find` meets its contract.
 use Prim.Native.Nat.{◌-◌, ◌≤◌}
 use lib.ListN.{length}
-use borrow.Author.Rules.{rules}
 use Rattle.query_text_test.proofs.find.Given as goal
 
 abbrev pub invariant-loop-i : goal.invariant-loop-i

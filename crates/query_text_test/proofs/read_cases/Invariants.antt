@@ -1,7 +1,6 @@
 -- `query_text_test::read_cases` ends.
 use Prim.Native.Nat.{◌-◌}
 use lib.ListN.{length}
-use borrow.Author.Rules.{rules}
 use Rattle.query_text_test.proofs.read_cases.Given as goal
 
 abbrev pub invariant-loop-at : goal.invariant-loop-at

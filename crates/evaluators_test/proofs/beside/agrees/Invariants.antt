@@ -1,6 +1,5 @@
 -- `agrees` is safe and ends: its loop counts.
 use Prim.Native.Nat.{◌-◌}
-use borrow.Author.Rules.{rules}
 use Rattle.evaluators_test.proofs.beside.agrees.Given as goal
 
 abbrev pub invariant-loop-d : goal.invariant-loop-d

@@ -1,6 +1,5 @@
 -- `list_number` is safe and ends: its loop counts.
 use Prim.Native.Nat.{◌-◌}
-use borrow.Author.Rules.{rules}
 use lib.ListN.{length}
 use Rattle.evaluators_test.proofs.cells.list_number.Given as goal
 

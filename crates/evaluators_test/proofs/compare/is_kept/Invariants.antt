@@ -1,6 +1,5 @@
 -- `is_kept` is safe and ends: its loop counts.
 use Prim.Native.Nat.{◌-◌}
-use borrow.Author.Rules.{rules}
 use lib.ListN.{length}
 use Rattle.evaluators_test.proofs.compare.is_kept.Given as goal
 

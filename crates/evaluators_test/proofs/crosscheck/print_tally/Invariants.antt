@@ -1,6 +1,5 @@
 -- `print_tally` is safe and ends: its loop counts.
 use Prim.Native.Nat.{◌-◌}
-use borrow.Author.Rules.{rules}
 use Rattle.evaluators_test.proofs.crosscheck.print_tally.Given as goal
 
 abbrev pub invariant-loop-i : goal.invariant-loop-i

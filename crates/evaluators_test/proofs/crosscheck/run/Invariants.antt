@@ -1,6 +1,5 @@
 -- `run` is safe and ends: its loop counts.
 use Prim.Native.Nat.{◌-◌}
-use borrow.Author.Rules.{rules}
 use Rattle.evaluators_test.proofs.crosscheck.run.Given as goal
 
 abbrev pub invariant-loop-i : goal.invariant-loop-i

@@ -1,6 +1,5 @@
 -- `add16` is safe and ends: its loop counts.
 use Prim.Native.Nat.{◌-◌}
-use borrow.Author.Rules.{rules}
 use Rattle.evaluators_test.proofs.indexes.add16.Given as goal
 
 abbrev pub invariant-loop-i : goal.invariant-loop-i

@@ -1,6 +1,5 @@
 -- `devices` is safe and ends: its loop counts.
 use Prim.Native.Nat.{◌-◌}
-use borrow.Author.Rules.{rules}
 use Rattle.evaluators_test.proofs.make.devices.Given as goal
 
 abbrev pub invariant-loop-d : goal.invariant-loop-d

@@ -1,6 +1,5 @@
 -- `limit` is safe and ends: its loop counts.
 use Prim.Native.Nat.{◌-◌}
-use borrow.Author.Rules.{rules}
 use Rattle.evaluators_test.proofs.make.limit.Given as goal
 
 abbrev pub invariant-loop-e : goal.invariant-loop-e

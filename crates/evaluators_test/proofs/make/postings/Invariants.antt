@@ -1,5 +1,4 @@
 -- `postings` is safe and ends: its loop counts.
-use borrow.Author.Rules.{rules}
 use Rattle.evaluators_test.proofs.make.postings.Given as goal
 
 abbrev pub invariant-loop-turns : goal.invariant-loop-turns

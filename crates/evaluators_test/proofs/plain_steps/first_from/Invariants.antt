@@ -1,6 +1,5 @@
 -- `first_from` is safe and ends: its loop counts.
 use Prim.Native.Nat.{◌-◌}
-use borrow.Author.Rules.{rules}
 use Rattle.evaluators_test.proofs.plain_steps.first_from.Given as goal
 
 abbrev pub invariant-loop-i : goal.invariant-loop-i

@@ -1,6 +1,5 @@
 -- `place` is safe and ends: its loop counts.
 use Prim.Native.Nat.{◌-◌}
-use borrow.Author.Rules.{rules}
 use Rattle.evaluators_test.proofs.plain_steps.place.Given as goal
 
 abbrev pub invariant-loop-k : goal.invariant-loop-k

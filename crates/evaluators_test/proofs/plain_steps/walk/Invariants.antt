@@ -1,5 +1,4 @@
 -- `walk` is safe and ends: its loop counts.
-use borrow.Author.Rules.{rules}
 use Rattle.evaluators_test.proofs.plain_steps.walk.Given as goal
 
 abbrev pub invariant-loop-turns : goal.invariant-loop-turns

@@ -1,6 +1,5 @@
 -- `any` is safe and ends: its loop counts.
 use Prim.Native.Nat.{◌-◌}
-use borrow.Author.Rules.{rules}
 use Rattle.evaluators_test.proofs.refusals.any.Given as goal
 
 abbrev pub invariant-loop-m : goal.invariant-loop-m

@@ -1,6 +1,5 @@
 -- `any_within` is safe and ends: its loop counts.
 use Prim.Native.Nat.{◌-◌}
-use borrow.Author.Rules.{rules}
 use lib.ListN.{length}
 use Rattle.evaluators_test.proofs.refusals.any_within.Given as goal
 

@@ -1,6 +1,5 @@
 -- `lowest` is safe and ends: its loop counts.
 use Prim.Native.Nat.{◌-◌}
-use borrow.Author.Rules.{rules}
 use Rattle.evaluators_test.proofs.refusals.lowest.Given as goal
 
 abbrev pub invariant-loop-row : goal.invariant-loop-row

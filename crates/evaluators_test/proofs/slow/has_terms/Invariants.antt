@@ -1,6 +1,5 @@
 -- `has_terms` is safe and ends: its loop counts.
 use Prim.Native.Nat.{◌-◌}
-use borrow.Author.Rules.{rules}
 use Rattle.evaluators_test.proofs.slow.has_terms.Given as goal
 
 abbrev pub invariant-loop-k : goal.invariant-loop-k

@@ -1,6 +1,5 @@
 -- `spread_all` is safe and ends: its loop counts.
 use Prim.Native.Nat.{◌-◌}
-use borrow.Author.Rules.{rules}
 use Rattle.evaluators_test.proofs.slow.spread_all.Given as goal
 
 abbrev pub invariant-loop-k : goal.invariant-loop-k

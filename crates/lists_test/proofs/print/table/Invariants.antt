@@ -1,6 +1,5 @@
 -- `table` reads within the entries.
 use Prim.Native.Nat.{◌≤◌, ◌-◌}
-use borrow.Author.Rules.{rules}
 use lib.ListN.{length}
 use Rattle.lists_test.proofs.print.table.Given as goal
 

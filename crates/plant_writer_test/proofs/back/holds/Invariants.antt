@@ -1,6 +1,5 @@
 -- `holds` reads within the bytes.
 use Prim.Native.Nat.{◌≤◌, ◌-◌}
-use borrow.Author.Rules.{rules}
 use lib.ListN.{length}
 use Rattle.plant_writer_test.proofs.back.holds.Given as goal
 

@@ -1,6 +1,5 @@
 -- `print_devices` reads within its tables.
 use Prim.Native.Nat.{◌≤◌, ◌-◌}
-use borrow.Author.Rules.{rules}
 use Rattle.plant_writer_test.proofs.back.print_devices.Given as goal
 
 abbrev pub invariant-loop-i : goal.invariant-loop-i

@@ -1,6 +1,5 @@
 -- `numbers` writes within its table.
 use Prim.Native.Nat.{◌≤◌, ◌-◌}
-use borrow.Author.Rules.{rules}
 use lib.ListN.{length}
 use mathlib.Core.Path.{◌≡◌}
 use Rattle.plant_writer_test.proofs.limits.numbers.Given as goal

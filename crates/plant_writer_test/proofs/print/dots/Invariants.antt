@@ -1,6 +1,5 @@
 -- `dots` reads within the bytes, and counts no more than it has passed.
 use Prim.Native.Nat.{◌≤◌, ◌-◌}
-use borrow.Author.Rules.{rules}
 use lib.ListN.{length}
 use Rattle.plant_writer_test.proofs.print.dots.Given as goal
 
