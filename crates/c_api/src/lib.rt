@@ -12,9 +12,13 @@ ghost use Rattle.c_api.specs.Handing.{levels_of, query_of, query_numbers};
 ghost use Rattle.c_api.specs.Interface.{SearchHanded, PlantHanded, TextHanded, RepairHanded, TightenHanded};
 
 use handing::{
-    outcome_numbers, outcome_refusal, query_numbers, query_of, repaired_numbers, repaired_refusal,
-    tightened_length, tightened_refusal, written_length, written_refusal,
+    answer_numbers, line_of, outcome_numbers, query_numbers, query_of, refusal_of, repaired_numbers,
 };
+use index::IndexTables;
+use plant::DeviceTables;
+use query::Query;
+use refusal::number_or_zero;
+use two_indexes::TwoIndexes;
 
 mod handing;
 
@@ -32,7 +36,13 @@ pub extern "C" fn plant_search_check(
         (plant last.now root.now level.now)
         (index terms.now starts.now postings.now) }
 {
-    index_check::check(last, root, level, terms, starts, postings)
+    let plant = DeviceTables { last, root, level };
+    let index = IndexTables {
+        terms,
+        starts,
+        postings,
+    };
+    number_or_zero(&index_check::check(plant, index))
 }
 
 // Searches two indexes for the devices that carry all required terms and no forbidden one. Any level code is wanted where `levels` is 0, true
@@ -67,22 +77,22 @@ pub extern "C" fn plant_search_search<'a>(
         (query_of required.now forbidden.now (levels_of levels low high) start budget)
         out.old out.new numbers.new result }
 {
-    let query = query_of(required, forbidden, levels, low, high, start, budget);
-    let told = search::search(
-        last,
-        root,
-        level,
+    let plant = DeviceTables { last, root, level };
+    let first = IndexTables {
         terms,
         starts,
         postings,
-        second_terms,
-        second_starts,
-        second_postings,
-        query,
-        out,
-    );
-    *numbers = [told.count, told.position, told.passed, told.moves];
-    told.refusal
+    };
+    let second = IndexTables {
+        terms: second_terms,
+        starts: second_starts,
+        postings: second_postings,
+    };
+    let indexes = TwoIndexes { first, second };
+    let query = query_of(required, forbidden, levels, low, high, start, budget);
+    let found = search::search(plant, indexes, query, out);
+    *numbers = answer_numbers(found);
+    number_or_zero(&found)
 }
 
 // Reads plant text into the tables: the refusal, and in `numbers` its line and the numbers of devices, terms and postings. What is beyond those
@@ -105,9 +115,9 @@ pub extern "C" fn plant_search_read_plant(
         (index terms.new starts.new postings.new)
         numbers.new result }
 {
-    let outcome = plant_text::read(text, last, root, level, terms, starts, postings);
-    *numbers = outcome_numbers(outcome);
-    outcome_refusal(outcome)
+    let read = plant_text::read(text, last, root, level, terms, starts, postings);
+    *numbers = outcome_numbers(read);
+    refusal_of(&read)
 }
 
 // Writes the text of the tables to the front of `text`: the refusal, and in `numbers` the length written. What is behind it stays, and so does all
@@ -128,9 +138,15 @@ pub extern "C" fn plant_search_write_plant(
         (index terms.now starts.now postings.now)
         text.old text.new numbers.new result }
 {
-    let written = plant_writer::write(last, root, level, terms, starts, postings, text);
-    *numbers = [written_length(written)];
-    written_refusal(written)
+    let plant = DeviceTables { last, root, level };
+    let index = IndexTables {
+        terms,
+        starts,
+        postings,
+    };
+    let written = plant_writer::write(plant, index, text);
+    *numbers = [written.unwrap_or(0)];
+    number_or_zero(&written)
 }
 
 // Repairs the lists of an index: the refusal, and in `numbers` how many postings were dropped and how many are left. What is dropped goes to the
@@ -151,9 +167,10 @@ pub extern "C" fn plant_search_repair(
         (index terms.now starts.old postings.old)
         report.old starts.new postings.new report.new numbers.new result }
 {
-    let repaired = repair::repair(last, root, level, terms, starts, postings, report);
+    let plant = DeviceTables { last, root, level };
+    let repaired = repair::repair(plant, terms, starts, postings, report);
     *numbers = repaired_numbers(repaired);
-    repaired_refusal(repaired)
+    number_or_zero(&repaired)
 }
 
 // Tightens each list of an index in its own room: it becomes the smallest with which the same devices carry its term. `numbers` is set to how
@@ -173,9 +190,10 @@ pub extern "C" fn plant_search_tighten(
         (index terms.now starts.old postings.old)
         starts.new postings.new numbers.new result }
 {
-    let tightened = tighten::tighten(last, root, level, terms, starts, postings);
-    *numbers = [tightened_length(tightened)];
-    tightened_refusal(tightened)
+    let plant = DeviceTables { last, root, level };
+    let tightened = tighten::tighten(plant, terms, starts, postings);
+    *numbers = [tightened.unwrap_or(0)];
+    number_or_zero(&tightened)
 }
 
 // Reads query text: the refusal, the terms in eight places each, and the other numbers of the query. A refusal gives the empty query.
@@ -191,14 +209,14 @@ pub extern "C" fn plant_search_read_query(
     ensures forbidden { forbidden.new ≡ (read_query text.now).query.forbidden.places }
     ensures numbers { numbers.new ≡ query_numbers (read_query text.now) }
 {
-    let found = query_text::read(text);
-    let query = found.query;
+    let asked = query_text::read(text);
+    let query = asked.unwrap_or(Query::empty());
     let first = query.required.places;
     let second = query.forbidden.places;
     *required = first;
     *forbidden = second;
-    *numbers = query_numbers(found);
-    found.refusal
+    *numbers = query_numbers(line_of(&asked), query);
+    refusal_of(&asked)
 }
 
 // What the program prints for a plant text and a query text, at the front of `out`, whose other bytes are kept. Returns how many bytes.

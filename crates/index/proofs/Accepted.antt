@@ -11,8 +11,7 @@ use Rattle.plant.specs.Plant.{Plant, size, plant_refusal}
 use Rattle.laws.specs.inner.Entries.{IsEntry}
 use Rattle.index.specs.Postings.{device}
 use Rattle.index.specs.Forward.{Sorted}
-use Rattle.plant.proofs.Forest as forests
-use Rattle.index.specs.inner.Lists.{SoundList, Held}
+use Rattle.index.specs.inner.Lists.{SoundList}
 use Rattle.index.specs.inner.Outlined.{Outlined}
 use Rattle.index.specs.Index.{Index, count, list, is_term, list_of, misplaced_term, wrong_start, stray, misplaced_in, redundant_in, index_rows, tables_refusal, most_terms, most_postings}
 use Rattle.laws.proofs.Cases.{split_cond}
@@ -26,10 +25,6 @@ use Rattle.index.proofs.Starts.{start_bounds}
 abbrev pub Rising : ℕ → ℕ → List ℕ → Type 0
 Rising n a [] = Unit
 Rising n a (q ∷ qs) = (a < device q) × (device q ≤ n) × Rising n (device q) qs
-
--- in accepted device tables each branch holds its device
-pub branches_held : (P : Plant) → plant_refusal P ≡ 0 → Held P.last
-branches_held P z = let s = forests.accepted P z in record { held = λ d e. s.own d e.first e.last }
 
 -- what the rows come to where none applies
 pub record Accepted (P : Plant) (I : Index) : Type 0 where

@@ -1,24 +1,39 @@
 -- The forward step: one posting at a time, and by doubling and halving.
-use Prim.Native.Nat.{ℕ, zero, suc, ◌+◌, ◌-◌, ◌≤◌, ◌<◌, min}
+use Prim.Native.Nat.{ℕ, zero, suc, ◌+◌, ◌-◌, ◌/◌, ◌≤◌, ◌<◌, min}
 use native.Mathlib.Omega.{arith}
-use mathlib.Core.List.{List, ◌∷◌}
+use mathlib.Core.List.{List, [], ◌∷◌}
+use mathlib.Core.Bool.{true, false}
 use mathlib.Core.Path.{◌≡◌, refl, sym, ◌∙◌, ap}
-use lib.Dec.{leb}
+use lib.Dec.{leb, ltb}
 use lib.ListN.{length, get_or, drop}
 use borrow.Author.Tests.{le-leb, lt-leb}
-use Rattle.laws.proofs.Cases.{by_order}
+use Rattle.laws.proofs.Tests.{flags}
+use Rattle.laws.proofs.Cases.{by_order, split}
+use Rattle.laws.specs.Front.{until}
+use Rattle.laws.proofs.Lists.{drop_clamped}
 use Rattle.laws.proofs.Front.{until_here, until_next, until_end}
+use Rattle.std.specs.List.{prefix_len}
 use Rattle.index.specs.Postings.{device}
 use Rattle.index.specs.Around.{Around}
 use Rattle.index.proofs.Halving.{closer, wider, all_before}
 use Rattle.index.specs.Forward.{before, forward, landing, step, Sorted, Sought}
 use Rattle.index.specs.declared.forward.Step.{Step}
 
--- a step that stays, or begins past the end, passes none
-pub stays : (i j : ℕ) → j ≤ i → record { at = j; passed = 0 } ≡ landing i j
-stays i j h = ap (λ (n : ℕ). record { at = j; passed = n }) (omega arith)
-
 -- ---- one posting at a time
+
+-- the postings before device d at the front, as a scan counts them
+before_is : (d : ℕ) (l : List ℕ) → prefix_len (λ q. ltb (q / 2) d) l ≡ before d l
+unfolding until
+before_is d [] = refl
+before_is d (q ∷ qs) =
+    split (λ n. prefix_len (λ x. ltb (x / 2) d) (q ∷ qs) ≡ n) (leb d (device q))
+    (λ e. let f : ltb (q / 2) d ≡ false = omega flags in rw f)
+    (λ e. let f : ltb (q / 2) d ≡ true = omega flags in rw f (omega (arith, before_is d qs)))
+
+-- so a scan from a position, within the list or past its end, gives the step
+pub counted_step : (l : List ℕ) (position d : ℕ) {from n : ℕ} {r : Step} → from ≡ min position (length l) → n ≡ prefix_len (λ q. ltb (q / 2) d) (drop from l)
+    → r ≡ landing position (from + n) → r ≡ step l position d
+counted_step l position d a b c = c ∙ ap (landing position) (cc (a, b, before_is d (drop position l), drop_clamped position l))
 
 -- a forward step from position p to device d goes as from index i
 pub record Ahead (l : List ℕ) (p d i : ℕ) : Type 0 where
@@ -38,13 +53,6 @@ module _ {l : List ℕ} {p d i : ℕ} (a : Ahead l p d i) where
 
   pub ended : length l ≤ i → length l ≡ forward l p d
   ended h = sym (a.same ∙ rw (until_end (λ q. leb d (device q)) l i h) (omega arith))
-
-  -- so the step lands there
-  pub found_step : {r : Step} → i < length l → d ≤ device (get_or l i 0) → r ≡ landing p i → r ≡ step l p d
-  found_step h g o = o ∙ ap (landing p) (found h g)
-
-  pub ended_step : {r : Step} → length l ≤ i → r ≡ landing p (length l) → r ≡ step l p d
-  ended_step h o = o ∙ ap (landing p) (ended h)
 
 -- ---- what a forward step has passed
 

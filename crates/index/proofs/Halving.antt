@@ -8,16 +8,6 @@ use Rattle.laws.proofs.Cases.{by_order}
 use Rattle.index.specs.Around.{Around}
 
 module _ {key : ℕ → ℕ} {l : List ℕ} {f e d low high : ℕ} (a : Around key l f e d low high) where
-  -- the key of entry m is below d
-  pub after_it : (m : ℕ) → low ≤ m → m < high → key (get_or l m 0) < d → Around key l f e d (m + 1) high
-  after_it m lm mh h = record {
-    from = omega arith;
-    ordered = omega arith;
-    to = a.to;
-    before = λ _. let e : m + 1 - 1 ≡ m = omega arith in rw e h;
-    after = a.after;
-  }
-
   -- the key of the entry in front of the part is below d too
   pub wider : {g : ℕ} → f ≡ g + 1 → key (get_or l g 0) < d → Around key l g e d low high
   wider {g} q h = record {
@@ -27,10 +17,6 @@ module _ {key : ℕ → ℕ} {l : List ℕ} {f e d low high : ℕ} (a : Around k
     before = λ _. by_order f low a.before (λ k. let u : low - 1 ≡ g = omega arith in rw u h);
     after = a.after;
   }
-
-  -- low has come to high
-  pub met : high ≤ low → Around key l f e d low low
-  met h = let q : high ≡ low = omega arith in rw q at a
 
   -- a second search in the part that the first has left
   pub closer : {r : ℕ} → Around key l low high d r r → Around key l f e d r r

@@ -7,36 +7,41 @@ use mathlib.Core.List.{List}
 use lib.Dec.{eqb}
 use lib.ListN.{length, get_or}
 use lib.Seq.{slice}
+use Rattle.std.specs.declared.cmp.Ordering.TheVariants.{Equal}
+use Rattle.std.proofs.Common.{Err}
+use Rattle.std.specs.List.{HoldsAt}
+use Rattle.std.specs.List.Sorted.{IsBinarySearchResult}
+use Rattle.std.specs.Ordering.{nat_cmp}
+use Rattle.std.proofs.lemmas.Bool.Decides.{nat_tests}
+use Rattle.std.proofs.lemmas.List.Sorted.{searched}
 use Rattle.laws.specs.Limits.{highest_term}
 use Rattle.laws.specs.Search.{any}
 use Rattle.index.specs.Index.{Index, count, list, is_term, list_of, misplaced_term}
-use Rattle.index.specs.Around.{Around}
 use Rattle.index.specs.Lookup.{Numbered, Looked}
 use Rattle.laws.proofs.Tests.{tests}
 use Rattle.laws.proofs.Cases.{by_order}
 use Rattle.laws.proofs.Search.{any_found, any_none, lowest_is}
 use Rattle.index.proofs.Lists.{rises, not_falling}
-use Rattle.index.proofs.Halving.{all_before}
 
 module _ {terms : List ℕ} {t i : ℕ} where
   -- the term at index i is the one looked for
-  pub number_found : i < length terms → get_or terms i 0 ≡ t → Numbered terms t (i + 1)
+  pub number_found : i < length terms → HoldsAt (λ y. nat_cmp y t ≡ Equal) terms i → Numbered terms t (i + 1)
   number_found h p =
       let e : i + 1 - 1 ≡ i = omega arith in
-      record { within = omega arith; named = λ _. rw e p; none = λ _ z. absurd (omega arith) }
+      let q : get_or terms i 0 ≡ t = grind (arith, nat_tests, p 0) in
+      record { within = omega arith; named = λ _. rw e q; none = λ _ z. absurd (omega arith) }
 
-  -- it is not, or there is none
-  pub number_none : Around (λ t. t) terms 0 (length terms) t i i → (i < length terms → get_or terms i 0 ≡ t → ⊥) → Numbered terms t 0
-  number_none a differs = record {
+  -- none is, where the terms before i are below it and the others above
+  pub number_none : IsBinarySearchResult (λ y. nat_cmp y t) terms (Err i) → Numbered terms t 0
+  number_none r = record {
     within = omega arith;
     named = λ h. absurd (omega arith);
-    none = λ sound _. sym (any_none _ (λ k l u. simp tests (λ p.
+    none = λ sound _.
+        let s = searched terms t (Err i) r (not_falling highest_term (λ t. t) terms sound) in
+        sym (any_none _ (λ k l u. simp tests (λ p.
         by_order (k - 1) i
-        (λ v. let h = all_before (λ j m z. not_falling highest_term (λ t. t) terms sound j m) a (k - 1) (omega arith) v in omega arith)
-        (λ v.
-        let h = not_falling highest_term (λ t. t) terms sound i (k - 1) v (omega arith) in
-        let g = a.after (omega arith) in
-        differs (omega arith) (omega arith)))));
+        (λ v. let h = s.1 (k - 1) v in omega arith)
+        (λ v. let h = s.2 (k - 1) v (omega arith) in omega arith))));
   }
 
 -- in terms that rise, the number is the only one of its term

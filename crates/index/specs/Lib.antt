@@ -1,6 +1,7 @@
 pub mod Postings
 pub mod Unshared
 pub mod Index
+pub mod Tables
 pub mod Laid
 pub mod Around
 pub mod Lookup

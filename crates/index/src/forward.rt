@@ -5,98 +5,75 @@ ghost use Rattle.index.specs.Forward.{landing, step, Sought};
 ghost use Rattle.index.specs.Around.{Around};
 ghost use Rattle.index.specs.inner.Parts.{Part};
 
+use std::ops::Range;
+
 // Where a forward step lands, and how many postings it passed over without landing.
-#[derive(Clone, Copy)]
+#[derive(Clone, Copy, Debug, PartialEq, Eq)]
 pub struct Step {
     pub at: usize,
     pub passed: usize,
 }
 
-// The step from index `from` to a later one: what lies between them was passed over.
-fn step_on(from: usize, at: usize) -> Step
-    requires { from < at }
-    ensures { result ≡ landing from at }
-{
-    Step {
-        at,
-        passed: at - from - 1,
-    }
-}
-
-// The same to any index. A step that stays, or begins past the end, passes none.
+// The step from index `from` to `at`. A step that stays, or begins past the end, passes none.
 fn step_to(from: usize, at: usize) -> Step
     ensures { result ≡ landing from at }
 {
-    if at <= from {
-        return Step { at, passed: 0 };
-    }
-    step_on(from, at)
+    let passed = if at <= from { 0 } else { at - from - 1 };
+    Step { at, passed }
 }
 
 // The step from `position` to the first posting whose device is at least `target`, or to the length. The list need not be sorted.
 pub fn first_at_least(list: &[u32], position: usize, target: u32) -> Step
     ensures { result ≡ step list.now position target }
 {
-    let mut i = position;
-    while i < list.len() {
-        if target <= list[i] / 2 {
-            return step_to(position, i);
-        }
-        i += 1;
-    }
-    step_to(position, list.len())
+    let from = position.min(list.len());
+    let before = list[from..]
+        .iter()
+        .take_while(|&&posting| posting / 2 < target)
+        .count();
+    step_to(position, from + before)
 }
 
 // The same for a list that is sorted from `position` on, in time that grows with the logarithm of the postings passed.
 pub fn seek(list: &[u32], position: usize, target: u32) -> Step
     ensures { Sought list.now position target result }
 {
-    if list.len() <= position {
+    let Some(&posting) = list.get(position) else {
         return step_to(position, list.len());
-    }
-    if target <= list[position] / 2 {
+    };
+    if target <= posting / 2 {
         return step_to(position, position);
     }
-    let span = gallop(list, position + 1, target);
-    let low = span.low;
-    let high = span.high;
-    step_on(position, bisect(list, low, high, target))
-}
-
-#[derive(Clone, Copy)]
-struct Span {
-    low: usize,
-    high: usize,
+    let around = gallop(list, position + 1, target);
+    step_to(position, bisect(list, around, target))
 }
 
 // Doubling steps from `from`, until one reaches a posting that is not before device `target`.
-fn gallop(list: &[u32], from: usize, target: u32) -> Span
+fn gallop(list: &[u32], from: usize, target: u32) -> Range<usize>
     requires { from ≤ length list.now }
-    ensures { Around device list.now from (length list.now) target result.low result.high }
+    ensures { Around device list.now from (length list.now) target result.start result.end }
 {
     let mut low = from;
-    let mut step: usize = 1;
+    let mut step = 1;
     while step <= list.len() - low {
         let probe = low + (step - 1);
         if target <= list[probe] / 2 {
-            return Span { low, high: probe };
+            return low..probe;
         }
         low = probe + 1;
-        step = step * 2;
+        step *= 2;
     }
-    Span {
-        low,
-        high: list.len(),
-    }
+    low..list.len()
 }
 
-// Halves the part from..end down to a single index.
-fn bisect(list: &[u32], from: usize, end: usize, target: u32) -> usize
-    requires { Part list.now from end }
-    ensures { Around device list.now from end target result result }
+// Halves a part of the list down to a single index.
+// Kept: `partition_point` promises nothing of a list that isn't sorted, as the clause `any` of `Sought` does.
+fn bisect(list: &[u32], part: Range<usize>, target: u32) -> usize
+    requires { Part list.now part.start part.end }
+    ensures { Around device list.now part.start part.end target result result }
 {
-    let mut low = from;
-    let mut high = end;
+    let mut low = part.start;
+    let mut high = part.end;
     while low < high {
         let mid = low + (high - low) / 2;
         if list[mid] / 2 < target {

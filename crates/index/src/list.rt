@@ -1,76 +1,63 @@
 // The list of a term, a part of the postings; where lists start; a table cleared behind them.
-ghost use Rattle.std.specs.Prelude.{◌≡◌, [], ◌++◌, ◌-◌, length, get_or, take, replicate};
+ghost use Rattle.std.specs.Prelude.{◌≡◌, [], ◌++◌, ◌-◌, length, get_or, take, replicate, unwrap_or, ◌≤◌, IfSome};
 ghost use Rattle.std.proofs.Math.Seq.{slice};
-ghost use Rattle.index.specs.Index.{index, list};
-ghost use Rattle.index.specs.Around.{Around};
+ghost use Rattle.index.specs.Index.{list};
+ghost use Rattle.index.specs.Tables.{index_of};
 ghost use Rattle.index.specs.Lookup.{Numbered, Looked};
 
-use integers::{least, one_less, u16_to_u32, u32_to_usize};
-
-// The list of `term`: a part of the postings, which is empty where the term is absent.
-pub fn list_of<'a>(terms: &[u16], starts: &[u32], postings: &'a [u32], term: u32) -> &'a [u32]
-    ensures { Looked (index terms.now starts.now postings.now) term result.now }
-{
-    let number = number_of(terms, term);
-    if number == 0 {
-        return part(postings, 0, 0);
-    }
-    list_at(starts, postings, number)
+// The tables of an index that a caller lends: its terms, where the list of each starts, and the postings.
+#[derive(Clone, Copy, Debug, PartialEq, Eq)]
+pub struct IndexTables<'a> {
+    pub terms: &'a [u16],
+    pub starts: &'a [u32],
+    pub postings: &'a [u32],
 }
 
-// The k-th list, counted from 1: it ends where the next starts, or at the end of the postings.
-pub fn list_at<'a>(starts: &[u32], postings: &'a [u32], k: usize) -> &'a [u32]
-    ensures { result.now ≡ list (index [] starts.now postings.now) k }
-{
-    let start = start_at(starts, one_less(k), 0);
-    let end = start_at(starts, k, postings.len());
-    part(postings, start, end)
-}
-
-// The number of `term` among the terms, or 0.
-pub fn number_of(terms: &[u16], term: u32) -> usize
-    ensures { Numbered terms.now term result }
-{
-    let i = lower_bound(terms, term);
-    if i < terms.len() && u16_to_u32(terms[i]) == term {
-        return i + 1;
-    }
-    0
-}
-
-// The first index whose term is not below `term`, by halves.
-fn lower_bound(terms: &[u16], term: u32) -> usize
-    ensures { Around (λ t. t) terms.now 0 (length terms.now) term result result }
-{
-    let mut low = 0;
-    let mut high = terms.len();
-    while low < high {
-        let mid = low + (high - low) / 2;
-        if u16_to_u32(terms[mid]) < term {
-            low = mid + 1;
-        } else {
-            high = mid;
+impl<'a> IndexTables<'a> {
+    // The list of `term`: a part of the postings, which is empty where the term is absent.
+    pub fn list_of(self, term: u32) -> &'a [u32]
+        ensures { Looked (index_of self.entry) term result.now }
+    {
+        match number_of(self.terms, term) {
+            None => &[],
+            Some(number) => self.list_at(number),
         }
     }
-    low
+
+    // The k-th list, counted from 1: it ends where the next starts, or at the end of the postings.
+    pub fn list_at(self, k: usize) -> &'a [u32]
+        ensures { result.now ≡ list (index_of self.entry) k }
+    {
+        let start = start_at(self.starts, k.saturating_sub(1), 0);
+        let end = start_at(self.starts, k, self.postings.len());
+        part(self.postings, start, end)
+    }
+}
+
+// The number of `term` among the terms, from 1 on.
+pub fn number_of(terms: &[u16], term: u32) -> Option<usize>
+    ensures numbered { Numbered terms.now term (unwrap_or result 0) }
+    ensures from_1 { IfSome result (λ number. 1 ≤ number) }
+{
+    match terms.binary_search_by(|&t| u32::from(t).cmp(&term)) {
+        Ok(i) => Some(i + 1),
+        Err(_) => None,
+    }
 }
 
 // The start at index i, or `none` past the last one.
 pub fn start_at(starts: &[u32], i: usize, none: usize) -> usize
     ensures { result ≡ get_or starts.now i none }
 {
-    if i < starts.len() {
-        return u32_to_usize(starts[i]);
-    }
-    none
+    starts.get(i).map_or(none, |&start| start as usize)
 }
 
 // The part of a table from `start` up to `end`, as far as the table goes.
 fn part(table: &[u32], start: usize, end: usize) -> &[u32]
     ensures { result.now ≡ slice start end table.now }
 {
-    let to = least(end, table.len());
-    let from = least(start, to);
+    let to = end.min(table.len());
+    let from = start.min(to);
     &table[from..to]
 }
 
@@ -78,9 +65,15 @@ fn part(table: &[u32], start: usize, end: usize) -> &[u32]
 pub fn clear(table: &mut [u32], from: usize)
     ensures { table.new ≡ take from table.old ++ replicate (length table.old - from) 0 }
 {
-    let mut i = from;
-    while i < table.len() {
-        table[i] = 0;
-        i += 1;
+    fill_from(table, from, 0);
+}
+
+// Sets the entries from index `from` on to `value`.
+pub fn fill_from<T: Copy>(table: &mut [T], from: usize, value: T)
+    ensures { table.new ≡ take from table.old ++ replicate (length table.old - from) value }
+{
+    let from = from.min(table.len());
+    for entry in &mut table[from..] {
+        *entry = value;
     }
 }

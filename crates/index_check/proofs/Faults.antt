@@ -1,6 +1,6 @@
 -- Lists with a fault: the one pass that tells them from sound ones, and which of the two rows for postings a fault comes to.
 use Prim.Native.Nat.{ℕ, ◌+◌, ◌-◌, ◌≤◌, ◌<◌}
-use mathlib.Core.Path.{◌≡◌, refl, sym, ◌∙◌}
+use mathlib.Core.Path.{◌≡◌, sym, ◌∙◌}
 use mathlib.Core.Bool.{true, false, ◌&&◌}
 use mathlib.Core.List.{List}
 use native.Mathlib.Omega.{arith}
@@ -10,7 +10,7 @@ use lib.ListN.{length, get_or}
 use Rattle.laws.specs.Search.{any}
 use Rattle.laws.specs.Tables.{entry}
 use Rattle.index.specs.Postings.{device, shared, reach, misplaced, redundant}
-use Rattle.index.specs.inner.Lists.{Held}
+use Rattle.plant.specs.inner.Forest.{Forest}
 use Rattle.index_check.specs.inner.Faults.{faulty}
 use Rattle.laws.proofs.Tests.{tests, or_yes, or_no}
 use Rattle.laws.proofs.Cases.{by_order, either, split_cond}
@@ -24,15 +24,6 @@ pub record Clear (last l : List ℕ) (k reached : ℕ) : Type 0 where
   pub later : 1 ≤ k → reached ≡ reach last (entry l k)
   pub ranged : (i : ℕ) → 1 ≤ i → i ≤ k → (1 ≤ device (entry l i)) × (device (entry l i) ≤ length last)
   pub rising : (i j : ℕ) → 1 ≤ i → i < j → j ≤ k → (device (entry l i) < device (entry l j)) × (reach last (entry l i) < device (entry l j))
-
-pub clear_start : (last l : List ℕ) → Clear last l 0 0
-clear_start last l = record {
-  within = omega arith;
-  first = λ z. refl;
-  later = λ v. absurd (omega arith);
-  ranged = λ i a b. absurd (omega arith);
-  rising = λ i j a b d. absurd (omega arith);
-}
 
 -- a posting makes no later device redundant that is beyond its reach
 unshadowed : (last : List ℕ) (q e : ℕ) → reach last q < e → (shared q && ltb (device q) e && leb e (entry last (device q))) ≡ false
@@ -67,17 +58,17 @@ module _ {last l : List ℕ} {k reached : ℕ} (h : Clear last l k reached) wher
       (λ a. misplaced_found u (simp tests (omega arith))))
       (λ b. let e = h.first (omega arith) in misplaced_found u (simp tests (omega arith)))
 
-  -- where branches hold their devices, what a posting reaches is not below its own device
-  own_reached : Held last → 1 ≤ k → device (entry l k) ≤ reached
+  -- over accepted branches what a posting reaches is not below its own device
+  own_reached : Forest last → 1 ≤ k → device (entry l k) ≤ reached
   own_reached o v =
       let e = h.later v in
       let r = h.ranged k v (omega arith) in
-      let w = o.held (device (entry l k)) (record { first = r.0; last = r.1 }) in
+      let w = o.own (device (entry l k)) r.0 r.1 in
       let z : device (entry l k) ≤ reach last (entry l k) = split_cond (λ n. device (entry l k) ≤ n) (shared (entry l k)) (λ _. w) (λ _. omega arith) in
       omega arith
 
   -- so a device beyond it is above those before
-  pub clear_turn : {y : ℕ} → Held last → k < length l → (reached < device (get_or l k 0)) × (device (get_or l k 0) ≤ length last)
+  pub clear_turn : {y : ℕ} → Forest last → k < length l → (reached < device (get_or l k 0)) × (device (get_or l k 0) ≤ length last)
       → y ≡ reach last (get_or l k 0) → Clear last l (k + 1) y
   clear_turn o u v q = let z = here device l k in record {
     within = omega arith;

@@ -1,2 +1,2 @@
--- Laws of lists with a fault.
+-- Laws of lists with a fault, and of searches by `any`.
 mod Faults

@@ -2,101 +2,81 @@
 // the terms where only their number counts.
 #![tactic(auto)]
 
-ghost use Rattle.std.specs.Prelude.{◌≡◌, ◌||◌, [], length};
+ghost use Rattle.std.specs.Prelude.{IfOk, ℕ, ◌≡◌, ◌||◌, [], length};
 ghost use Rattle.laws.specs.Limits.{highest_term};
 ghost use Rattle.laws.specs.Rows.{otherwise};
 ghost use Rattle.laws.specs.Search.{any};
 ghost use Rattle.laws.specs.inner.Entries.{IsEntry};
-ghost use Rattle.plant.specs.Plant.{plant};
+ghost use Rattle.refusal.specs.Numbers.{row_or, refused};
+ghost use Rattle.plant.specs.Tables.{plant_of};
 ghost use Rattle.index.specs.Postings.{device, reach, outside, not_rising, misplaced};
 ghost use Rattle.index.specs.Index.{index, wrong_start, stray, misplaced_in, outline_rows, index_rows, tables_refusal};
-ghost use Rattle.index.specs.inner.Lists.{Held};
+ghost use Rattle.index.specs.Tables.{index_of};
 ghost use Rattle.index_check.specs.inner.Faults.{faulty, faulty_in};
 
-use index::{device_of, list_at, reach_by, start_at};
-use integers::{u16_to_u32, u16_to_usize};
+use index::{IndexTables, device_of, reach_of};
+use plant::{Branches, DeviceTables};
+use refusal::{IndexRow, Refusal};
 
-// The lowest refusal number that applies to the device tables and the index, or 0.
-pub fn check(
-    last: &[u16],
-    root: &[u16],
-    level: &[u8],
-    terms: &[u16],
-    starts: &[u32],
-    postings: &[u32],
-) -> u32
-    ensures { result ≡ tables_refusal
-        (plant last.now root.now level.now)
-        (index terms.now starts.now postings.now) }
+// The refusal with the lowest number that applies to the device tables and the index.
+pub fn check<'a>(plant: DeviceTables<'a>, index: IndexTables) -> Result<Branches<'a>, Refusal>
+    ensures refusal { refused result ≡ tables_refusal (plant_of plant.entry) (index_of index.entry) }
+    ensures branches { IfOk result (λ branches. branches.last.now ≡ plant.entry.last.now) }
 {
-    let refused = plant::check(last, root, level);
-    if refused != 0 {
-        return refused;
-    }
-    rows(last, 5, terms, starts, postings)
+    let branches = plant::check(plant)?;
+    rows(branches, index).map_err(Refusal::Index)?;
+    Ok(branches)
 }
 
 // The same of two indexes over the device tables: where nothing applies to the first, the rows for the second, numbered from 55 on.
-pub fn check_both(
-    last: &[u16],
-    root: &[u16],
-    level: &[u8],
-    terms: &[u16],
-    starts: &[u32],
-    postings: &[u32],
-    second_terms: &[u16],
-    second_starts: &[u32],
-    second_postings: &[u32],
-) -> u32
-    ensures { result ≡ otherwise
-        (tables_refusal
-        (plant last.now root.now level.now)
-        (index terms.now starts.now postings.now))
-        (index_rows 55 last.now
-        (index second_terms.now second_starts.now second_postings.now)) }
+pub fn check_both<'a>(
+    plant: DeviceTables<'a>,
+    first: IndexTables,
+    second: IndexTables,
+) -> Result<Branches<'a>, Refusal>
+    ensures branches { IfOk result (λ branches. branches.last.now ≡ plant.entry.last.now) }
+    ensures refusal { refused result ≡ otherwise
+        (tables_refusal (plant_of plant.entry) (index_of first.entry))
+        (index_rows 55 plant.entry.last.now (index_of second.entry)) }
 {
-    let refused = check(last, root, level, terms, starts, postings);
-    if refused != 0 {
-        return refused;
-    }
-    rows(last, 55, second_terms, second_starts, second_postings)
+    let branches = check(plant, first)?;
+    rows(branches, second).map_err(Refusal::SecondIndex)?;
+    Ok(branches)
 }
 
-// The rows for an index alone, numbered from `first` on, over device tables that are accepted: the first that applies, or 0. Of an index that is
-// accepted each posting is read once.
-fn rows(last: &[u16], first: u16, terms: &[u16], starts: &[u32], postings: &[u32]) -> u32
-    requires { Held last.now }
-    ensures { result ≡ index_rows first last.now
-        (index terms.now starts.now postings.now) }
+// The first of an index's own rows that applies, over device tables that are accepted. Of an index that is accepted each posting is read once.
+fn rows(branches: Branches, index: IndexTables) -> Result<(), IndexRow>
+    ensures { (first : ℕ) → row_or first 0 result ≡ index_rows first branches.entry.last.now (index_of index.entry) }
 {
-    let number = u16_to_u32(first);
-    let row = outline_row(terms, starts, postings);
-    if row != 0 {
-        return number + (row - 1);
+    outline_row(index)?;
+    if !any_fault(branches, index) {
+        return Ok(());
     }
-    if !any_fault(last, starts, postings) {
-        return 0;
+    if any_misplaced(branches.last.len(), index) {
+        return Err(IndexRow::MisplacedPosting);
     }
-    if any_misplaced(last.len(), starts, postings) {
-        return number + 3;
-    }
-    number + 4
+    Err(IndexRow::RedundantPosting)
 }
 
-// Which of the three rows applies that say where lists lie: its number among them, from 1 on, or 0.
-pub fn outline_row(terms: &[u16], starts: &[u32], postings: &[u32]) -> u32
-    ensures { result ≡ outline_rows 1 (index terms.now starts.now postings.now) 0 }
+// Which of the three rows applies that say where lists lie.
+pub fn outline_row(index: IndexTables) -> Result<(), IndexRow>
+    ensures { (first rest : ℕ) → row_or first rest result ≡ outline_rows first (index_of index.entry) rest }
 {
+    let IndexTables {
+        terms,
+        starts,
+        postings,
+    } = index;
     if starts.len() != terms.len() || 8_192 < terms.len() || 1_048_576 < postings.len() {
-        return 1;
+        return Err(IndexRow::Unfit);
     }
     if any_misplaced_term(terms) {
-        return 2;
+        return Err(IndexRow::MisplacedTerm);
     }
     if any_wrong_start(starts, postings) {
-        return 3;
+        return Err(IndexRow::WrongStart);
     }
-    0
+    Ok(())
 }
 
 // Whether a term is out of range or not above the one before it. No term is above 65,535.
@@ -104,14 +84,11 @@ fn any_misplaced_term(terms: &[u16]) -> bool
     ensures { result ≡ any (length terms.now) (misplaced highest_term (λ t. t) terms.now) }
 {
     let mut before = 0;
-    let mut k = 0;
-    while k < terms.len() {
-        let term = terms[k];
+    for &term in terms {
         if term <= before {
             return true;
         }
         before = term;
-        k += 1;
     }
     false
 }
@@ -123,114 +100,66 @@ fn any_wrong_start(starts: &[u32], postings: &[u32]) -> bool
         || stray (index starts.now starts.now postings.now)) }
 {
     let mut next = postings.len();
-    let mut k = starts.len();
-    while 0 < k {
-        let start = start_at(starts, k - 1, 0);
+    for &start in starts.iter().rev() {
+        let start = start as usize;
         if next < start {
             return true;
         }
         next = start;
-        k -= 1;
     }
     next != 0
 }
 
 // Whether a list has a posting that is misplaced or redundant: the one pass over an index that is accepted.
-fn any_fault(last: &[u16], starts: &[u32], postings: &[u32]) -> bool
-    requires { Held last.now }
-    ensures { result ≡ any (length starts.now)
-        (faulty_in last.now (index [] starts.now postings.now)) }
+fn any_fault(branches: Branches, index: IndexTables) -> bool
+    ensures { result ≡ any (length index.entry.starts.now) (faulty_in branches.entry.last.now (index_of index.entry)) }
 {
-    let mut k = 0;
-    while k < starts.len() {
-        k += 1;
-        if fault_in(last, list_at(starts, postings, k)) {
-            return true;
-        }
-    }
-    false
+    (0..index.starts.len()).any(|i| fault_in(branches, index.list_at(i + 1)))
 }
 
 // Whether a posting of a list is misplaced or redundant. What a posting reaches is never below its own device: one comparison with what the one
 // before it reaches serves both.
-fn fault_in(last: &[u16], list: &[u32]) -> bool
-    requires { Held last.now }
-    ensures { result ≡ faulty last.now list.now }
+fn fault_in(branches: Branches, list: &[u32]) -> bool
+    ensures { result ≡ faulty branches.entry.last.now list.now }
 {
     let mut reached = 0;
-    let mut k = 0;
-    while k < list.len() {
-        let posting = list[k];
+    for &posting in list {
         let d = device_of(posting);
-        if d <= reached || last.len() < d {
+        if d <= reached || branches.last.len() < d {
             return true;
         }
-        reached = reach_of(last, posting);
-        k += 1;
+        reached = reach_of(branches, posting);
     }
     false
-}
-
-// The last device that a posting carries its term to. The table is read before it is known whether the posting is shared: the choice is then no
-// branch to be guessed.
-fn reach_of(last: &[u16], posting: u32) -> usize
-    requires { IsEntry last.now (device posting) }
-    ensures { result ≡ reach last.now posting }
-{
-    let d = device_of(posting);
-    let end = u16_to_usize(last[d - 1]);
-    reach_by(end, posting)
 }
 
 // Whether a list has a posting whose device is not among 1 to `most`, or does not rise.
-fn any_misplaced(most: usize, starts: &[u32], postings: &[u32]) -> bool
-    ensures { result ≡ any (length starts.now) (misplaced_in most (index [] starts.now postings.now)) }
+fn any_misplaced(most: usize, index: IndexTables) -> bool
+    ensures { result ≡ any (length index.entry.starts.now) (misplaced_in most (index_of index.entry)) }
 {
-    let mut k = 0;
-    while k < starts.len() {
-        k += 1;
-        if misplaced_in(most, list_at(starts, postings, k)) {
-            return true;
-        }
-    }
-    false
+    (0..index.starts.len()).any(|i| misplaced_in(most, index.list_at(i + 1)))
 }
 
 // Whether a posting's device is not among 1 to `most`, or not above the one before it.
 fn misplaced_in(most: usize, list: &[u32]) -> bool
     ensures { result ≡ any (length list.now) (misplaced most device list.now) }
 {
-    if outside_in(most, list) {
-        return true;
-    }
-    unordered_in(list)
+    outside_in(most, list) || unordered_in(list)
 }
 
 // Whether a posting's device is not among 1 to `most`.
 pub fn outside_in(most: usize, list: &[u32]) -> bool
     ensures { result ≡ any (length list.now) (outside most device list.now) }
 {
-    let mut k = 0;
-    while k < list.len() {
-        let d = device_of(list[k]);
-        k += 1;
-        if d == 0 || most < d {
-            return true;
-        }
-    }
-    false
+    list.iter().any(|&posting| {
+        let d = device_of(posting);
+        d == 0 || most < d
+    })
 }
 
 // Whether a posting's device is not above the one before it.
 fn unordered_in(list: &[u32]) -> bool
     ensures { result ≡ any (length list.now) (not_rising device list.now) }
 {
-    let mut k = 1;
-    while k < list.len() {
-        if device_of(list[k]) <= device_of(list[k - 1]) {
-            return true;
-        }
-        k += 1;
-    }
-    false
+    !list.is_sorted_by(|a, b| device_of(*a) < device_of(*b))
 }

@@ -8,5 +8,6 @@ pub mod Maps
 pub mod Front
 pub mod Tally
 pub mod Joined
+pub mod Listed
 pub mod Clearing
 pub mod Lent

@@ -9,6 +9,7 @@ use Rattle.laws.specs.Limits.{most_devices}
 use Rattle.laws.specs.Search.{any}
 use Rattle.laws.specs.Tables.{entry}
 use Rattle.plant.specs.Plant.{Plant, size, holds, out_of_range, overlap, overlaps, root_of, wrong_root, uneven, plant_refusal}
+use Rattle.plant.specs.inner.Forest.{Forest}
 use Rattle.laws.proofs.Tests.{tests, flags}
 use Rattle.laws.proofs.Cases.{by_order}
 use Rattle.laws.proofs.Search.{none_any, any_found, any_none, lowest_is, Lowest, lowest_of}
@@ -113,3 +114,7 @@ accepts P s =
     let w : root_of P.last d ≡ entry P.root d = lowest_is _ (h.0, h.1) (simp tests (omega arith))
     (λ e m v. simp tests (λ p. s.lowest d e l u m (omega arith))) in simp tests (sym w)) in
     rw (even, ← range, ← apart, ← roots)
+
+-- the branches of accepted device tables
+pub forest : (P : Plant) → plant_refusal P ≡ 0 → Forest P.last
+forest P z = let s = accepted P z in record { few = s.few; own = s.own; inner = s.inside; nested = s.nested }

@@ -1,3 +1,3 @@
 -- What accepted device tables say; callers of other crates cite it.
 pub mod Forest
-mod Branches
+mod Faults

@@ -1,31 +1,47 @@
 // Device tables that a caller lends, and their check.
 #![tactic(auto)]
 
-ghost use Rattle.std.specs.Prelude.{◌≡◌, false, ◌<◌, length};
+ghost use Rattle.std.specs.Prelude.{IfOk, ◌≡◌, false, ◌<◌, length};
 ghost use Rattle.laws.specs.Rows.{pick};
 ghost use Rattle.laws.specs.Search.{any};
 ghost use Rattle.laws.specs.Tables.{entry};
 ghost use Rattle.laws.specs.inner.Entries.{IsEntry};
 ghost use Rattle.laws.proofs.Search.{None};
 ghost use Rattle.plant.specs.inner.Branches.{faulty};
-ghost use Rattle.plant.specs.Plant.{plant, out_of_range, overlaps, wrong_root, plant_refusal};
+ghost use Rattle.refusal.specs.Numbers.{number, refused};
+ghost use Rattle.plant.specs.Tables.{plant_of};
+ghost use Rattle.plant.specs.Plant.{out_of_range, overlaps, wrong_root, plant_refusal};
 
-use integers::u16_to_usize;
+use refusal::Refusal;
 
-// The lowest refusal number that applies to the tables, or 0.
-pub fn check(last: &[u16], root: &[u16], level: &[u8]) -> u32
-    ensures { result ≡ plant_refusal (plant last.now root.now level.now) }
+mod branches;
+
+pub use branches::Branches;
+
+// The device tables that a caller lends, with one entry for each device.
+#[derive(Clone, Copy, Debug, PartialEq, Eq)]
+pub struct DeviceTables<'a> {
+    pub last: &'a [u16],
+    pub root: &'a [u16],
+    pub level: &'a [u8],
+}
+
+// The refusal with the lowest number that applies to the tables.
+pub fn check<'a>(tables: DeviceTables<'a>) -> Result<Branches<'a>, Refusal>
+    ensures refusal { refused result ≡ plant_refusal (plant_of tables.entry) }
+    ensures branches { IfOk result (λ branches. branches.last.now ≡ tables.entry.last.now) }
 {
+    let DeviceTables { last, root, level } = tables;
     if root.len() != last.len() || level.len() != last.len() || 65_535 < last.len() {
-        return 1;
+        return Err(Refusal::UnevenTables);
     }
     if any_fault(last) {
-        return fault_number(last);
+        return Err(fault(last));
     }
     if any_wrong_root(last, root) {
-        return 4;
+        return Err(Refusal::WrongRoot);
     }
-    0
+    Ok(Branches { last })
 }
 
 // The entry of device d in a table.
@@ -33,34 +49,35 @@ fn entry_of(table: &[u16], d: usize) -> usize
     requires { IsEntry table.now d }
     ensures { result ≡ entry table.now d }
 {
-    u16_to_usize(table[d - 1])
+    usize::from(table[d - 1])
 }
 
-// Whether a branch ends before its device or past the last device.
+// Whether the branch of d ends before d or past the last device.
+fn is_out_of_range(last: &[u16], d: usize) -> bool
+    requires { IsEntry last.now d }
+    ensures { result ≡ out_of_range last.now d }
+{
+    let end = entry_of(last, d);
+    end < d || last.len() < end
+}
+
+// Whether some branch is out of range.
 fn any_out_of_range(last: &[u16]) -> bool
     ensures { result ≡ any (length last.now) (out_of_range last.now) }
 {
-    let mut d = 0;
-    while d < last.len() {
-        d += 1;
-        let end = entry_of(last, d);
-        if end < d || last.len() < end {
-            return true;
-        }
-    }
-    false
+    (0..last.len()).any(|i| is_out_of_range(last, i + 1))
 }
 
-// Whether the branch of d is out of range or overlaps another, where no later branch is or does. Goes over the children of d.
+// Whether the branch of d is out of range or overlaps another, where no later branch is or does. Jumps from one child of d to the next.
 fn faulty_at(last: &[u16], d: usize) -> bool
     requires entry { IsEntry last.now d }
     requires sound_after { None (faulty last.now) d (length last.now) }
     ensures { result ≡ faulty last.now d }
 {
-    let end = entry_of(last, d);
-    if end < d || last.len() < end {
+    if is_out_of_range(last, d) {
         return true;
     }
+    let end = entry_of(last, d);
     let mut child = d + 1;
     while child <= end {
         let child_end = entry_of(last, child);
@@ -76,21 +93,22 @@ fn faulty_at(last: &[u16], d: usize) -> bool
 fn any_fault(last: &[u16]) -> bool
     ensures { result ≡ any (length last.now) (faulty last.now) }
 {
-    let mut d = last.len();
-    while 0 < d {
+    for d in (1..=last.len()).rev() {
         if faulty_at(last, d) {
             return true;
         }
-        d -= 1;
     }
     false
 }
 
 // Which row a fault comes to.
-fn fault_number(last: &[u16]) -> u32
-    ensures { result ≡ pick (any (length last.now) (out_of_range last.now)) 2 3 }
+fn fault(last: &[u16]) -> Refusal
+    ensures { number result ≡ pick (any (length last.now) (out_of_range last.now)) 2 3 }
 {
-    if any_out_of_range(last) { 2 } else { 3 }
+    if any_out_of_range(last) {
+        return Refusal::LastOutOfRange;
+    }
+    Refusal::OverlappingBranches
 }
 
 // Whether a device's root is not the lowest device whose branch holds it. Keeps the root of the current tree.
@@ -101,13 +119,12 @@ fn any_wrong_root(last: &[u16], root: &[u16]) -> bool
     ensures { result ≡ any (length last.now) (wrong_root last.now root.now) }
 {
     let mut tree = 1;
-    let mut d = 0;
-    while d < last.len() {
-        d += 1;
+    for (i, &listed) in root.iter().enumerate() {
+        let d = i + 1;
         if entry_of(last, tree) < d {
             tree = d;
         }
-        if entry_of(root, d) != tree {
+        if usize::from(listed) != tree {
             return true;
         }
     }

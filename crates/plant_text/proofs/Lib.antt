@@ -7,3 +7,4 @@ mod Index
 mod Whole
 pub mod Example
 pub mod Row26
+pub mod Numbered

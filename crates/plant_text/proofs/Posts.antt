@@ -1,47 +1,38 @@
 -- Laws of the reader of postings.
-use Prim.Native.Nat.{ℕ, ◌+◌, ◌-◌, ◌*◌, ◌/◌, ◌%◌, ◌<◌, ◌≤◌}
+use Prim.Native.Nat.{ℕ, ◌+◌, ◌-◌, ◌*◌, ◌%◌, ◌<◌, ◌≤◌}
 use mathlib.Core.Path.{◌≡◌, refl, sym, ap, ◌∙◌}
-use mathlib.Core.Bool.{Bool, true, false, not, ◌||◌}
+use mathlib.Core.Bool.{Bool, true, false, ◌||◌}
 use mathlib.Core.List.{List, [], ◌∷◌, ◌++◌}
 use native.Mathlib.Numerals.{add-one}
 use native.Mathlib.Omega.{arith}
 use borrow.Author.Tests.{lt-leb, eqb-true, eqb-false}
 use lib.Dec.{leb, ltb, eqb}
-use lib.ListN.{length, get_or, take, drop, set, length-set, get_or-eq_default}
-use lib.Seq.{slice, length-slice, length-take-le, take-length, take-suc-set, drop-append-le, get_or-take, get_or-drop}
+use lib.ListN.{length, take, drop, set, length-set, get_or-eq_default}
+use lib.Seq.{slice, length-slice, length-take-le, take-length, take-suc-set, drop-append-le, get_or-take}
 use Rattle.laws.specs.Rows.{pick}
 use Rattle.laws.specs.Tables.{entry}
 use Rattle.laws.specs.inner.Entries.{IsEntry}
 use Rattle.laws.proofs.Rows.{pick_none}
-use Rattle.laws.proofs.Tests.{flags, not_yes, not_no}
-use Rattle.laws.proofs.Cases.{either, by_order}
+use Rattle.laws.proofs.Tests.{flags}
+use Rattle.laws.proofs.Cases.{either}
+use Rattle.laws.proofs.Lists.{slice_part}
 use Rattle.plant.specs.Plant.{size}
 use Rattle.index.specs.Postings.{posting, device, shared, reach, shadowed}
 use Rattle.index.specs.inner.Lists.{SoundList}
 use Rattle.text.specs.Forms.{unfinished}
 use Rattle.text.specs.inner.Finding.{found_at}
-use Rattle.text.specs.Reading.{Read, no}
+use Rattle.text.specs.Reading.{Read}
 use Rattle.text.specs.declared.Found.{Found}
 use Rattle.plant_text.specs.Form.{all_line, close_line, rows, is_posting}
 use Rattle.plant_text.specs.PlantText.{State, postings, terms, current, add_posting, line_refusal, next}
-use Rattle.plant_text.specs.inner.Rest.{from_form, with_number, highest_known, line_after, ReadingAt, kind_refusal}
-use Rattle.plant_text.specs.inner.Terms.{Before, posts_made, Adds, from_posting, SamePosts, PostsStart, PostsAt}
+use Rattle.plant_text.specs.inner.Rest.{from_form, with_number, highest_known, line_after, ReadingAt, kind_refusal, Tells, refused_by}
+use Rattle.plant_text.specs.inner.Terms.{newest, Before, posts_made, Adds, Bars, from_posting, SamePosts, PostsStart, PostsAt}
 use Rattle.plant_text.specs.declared.Room.{Room}
 use Rattle.plant_text.specs.declared.lines.Place.{Place}
-use Rattle.plant_text.proofs.Reading.{more_at, form_refused, form_taken, reading_form, found_moves, next_line, past_line, at_kind, posting_kinds, is_due, not_due}
-use Rattle.index.proofs.Lists.{device_of}
-use Rattle.index.proofs.Growing.{empty_entry, sound_none, newest_entry, shadowed_newest, sound_more}
-
--- the newest posting of a list, or 0
-module _ (posts : List ℕ) (begin n : ℕ) (k : n ≤ length posts) where
-  pub newest_some : begin < n → get_or posts (n - 1) 0 ≡ entry (slice begin n posts) (n - begin)
-  newest_some h =
-      let e : begin + (n - begin - 1) ≡ n - 1 = omega arith in
-      let i : n - 1 < n = omega arith in
-      rw (get_or-drop, e, get_or-take n posts (n - 1) 0 i)
-
-  pub newest_none : n ≤ begin → 0 ≡ entry (slice begin n posts) (n - begin)
-  newest_none h = sym (empty_entry (slice begin n posts) (n - begin) (omega (arith, length-slice begin n posts k)))
+use Rattle.text.specs.declared.Refused.{Refused}
+use Rattle.plant_text.proofs.Reading.{more_at, line_refused, form_taken, reading_form, found_moves, next_line, past_line, at_kind, posting_kinds, is_due, kind_refused}
+use Rattle.index.proofs.Lists.{device_of, ranged}
+use Rattle.index.proofs.Growing.{sound_none, newest_entry, shadowed_newest, sound_more}
 
 -- the rows of a posting agree where their last tests do
 same_rows : (a b c u v : Bool) → (a ≡ false → c ≡ false → u ≡ v) → pick a 22 (pick b 27 (pick c 28 (pick u 29 0))) ≡ pick a 22 (pick b 27 (pick c 28 (pick v 29 0)))
@@ -75,54 +66,54 @@ module _ (r : Room) (m : State) (posts : List ℕ) (n d kind : ℕ) (e : is_post
   posting_next =
       posting_kinds (λ k. next (posts_made m posts n postings) (with_number k d) ≡ add_posting (posts_made m posts n postings) d (eqb k all_line)) kind e refl refl
 
--- a number times a bit
-pub bit_times : (a b : ℕ) → a ≤ 1 → b ≤ 65535 → a * b ≤ 65535
-bit_times a b h l =
-    by_order 0 a (λ v. let z : a ≡ 1 = omega arith in rw z (omega arith)) (λ v. let z : a ≡ 0 = omega arith in rw z (omega arith))
+module _ (r : Room) (last posts : List ℕ) (count begin n : ℕ) (hc : count ≤ length last) (hb : begin ≤ n) (hn : n ≤ r.postings) (hp : r.postings ≤ length posts)
+    (sound : SoundList (take count last) (slice begin n posts)) where
+  -- the newest posting, as the code finds it
+  abbrev q : ℕ
+  q = newest (take (n - begin) (drop begin posts))
 
--- what the code reads of the table, where there is a posting
-pub reach_none : (last : List ℕ) (q : ℕ) → ((q ≡ 0 → ⊥) → IsEntry last (device q)) → q / 2 ≡ 0 → 0 ≡ (q % 2) * entry last (device q)
-reach_none last q h e =
-    by_order 0 q (λ v. let i = h (λ z. omega arith) in absurd (omega (arith, i.first)))
-    (λ v. let z : q ≡ 0 = omega arith in rw z (omega arith))
+  part_is : take (n - begin) (drop begin posts) ≡ slice begin n posts
+  part_is = slice_part begin n posts (omega arith) (omega arith)
 
-module _ (r : Room) (last posts : List ℕ) (count begin n : ℕ) {q : ℕ} (hc : count ≤ length last) (hb : begin ≤ n) (hn : n ≤ r.postings) (hp : r.postings ≤ length posts)
-    (sound : SoundList (take count last) (slice begin n posts)) (eq : q ≡ entry (slice begin n posts) (n - begin)) where
-  newest : q ≡ entry (slice begin n posts) (length (slice begin n posts))
-  newest = rw (length-slice begin n posts (omega arith)) eq
+  newest_is : q ≡ newest (slice begin n posts)
+  newest_is = ap newest part_is
 
-  pub newest_in_plant : (q ≡ 0 → ⊥) → IsEntry last (device q)
-  newest_in_plant z =
-      let e = newest_entry (take count last) (slice begin n posts) sound q newest z in
-      record { first = e.first; last = omega (arith, e.last, length-take-le count last hc) }
+  pub in_plant : 0 < length (take (n - begin) (drop begin posts)) → IsEntry last (device q)
+  in_plant h =
+      let e = ranged (length (take count last)) device (slice begin n posts) sound.placed (length (slice begin n posts)) (omega (arith, ap length part_is)) (omega arith) in
+      rw newest_is (record { first = e.0; last = omega (arith, e.1, length-take-le count last hc) })
 
   current_is : (m : State) → Before last count begin m → current (posts_made m posts n postings) ≡ slice begin n posts
   current_is m b =
       let z : length m.index.starts ≤ length m.index.terms = omega (arith, b.even) in
       rw (b.begun, get_or-eq_default m.index.starts (length (take n posts)) {n = length m.index.terms} z, take-length (take n posts))
 
-  module _ (d : ℕ) {far x : ℕ} (ef : far ≡ (q % 2) * entry last (device q))
-      (ex : x ≡ pick (eqb d 0 || ltb count d) 22 (pick (leb r.postings n) 27 (pick (leb d (device q)) 28 (pick (leb d far) 29 0)))) where
+  module _ (d : ℕ) where
+    abbrev far : ℕ
+    far = (q % 2) * entry last (device q)
+
+    abbrev row : ℕ
+    row = pick (eqb d 0 || ltb count d) 22 (pick (leb r.postings n) 27 (pick (leb d (device q)) 28 (pick (leb d far) 29 0)))
+
     -- past its own device a posting reaches as far as its branch, if it is shared
     far_is : 1 ≤ d → device q < d → leb d (reach (take count last) q) ≡ leb d far
     far_is a u =
         either (shared q)
         (λ t. let k : q % 2 ≡ 1 = eqb-true (q % 2) 1 t in
-        let e = newest_entry (take count last) (slice begin n posts) sound q newest (λ z. omega arith) in
+        let e = newest_entry (take count last) (slice begin n posts) sound q newest_is (λ z. omega arith) in
         let i : device q - 1 < count = omega (arith, e.first, e.last, length-take-le count last hc) in
-        let f : far ≡ entry last (device q) = ef ∙ rw k (omega arith) in
+        let f : far ≡ entry last (device q) = rw k (omega arith) in
         rw (t, get_or-take count last (device q - 1) 0 i, f))
         (λ t. let k : q % 2 ≡ 0 = omega (arith, eqb-false (q % 2) 1 t) in
-        let f : far ≡ 0 = ef ∙ rw k (omega arith) in
+        let f : far ≡ 0 = rw k (omega arith) in
         rw (t, lt-leb d (device q) u, f, lt-leb d 0 a))
 
     shadow_is : 1 ≤ d → device q < d → shadowed (take count last) (slice begin n posts) d ≡ leb d far
-    shadow_is a u =
-        shadowed_newest (take count last) (slice begin n posts) sound d a (rw (← newest) u) ∙ rw (← newest) (far_is a u)
+    shadow_is a u = shadowed_newest (take count last) (slice begin n posts) sound d a (rw (← newest_is) u) ∙ rw (← newest_is) (far_is a u)
 
-    pub post_fits : x ≡ 0 → (1 ≤ d) × (d ≤ count) × (n < r.postings) × (device q < d) × (far < d)
+    post_fits : row ≡ 0 → (1 ≤ d) × (d ≤ count) × (n < r.postings) × (device q < d) × (far < d)
     post_fits z =
-        let a = pick_none (eqb d 0 || ltb count d) 21 _ (sym ex ∙ z) in
+        let a = pick_none (eqb d 0 || ltb count d) 21 _ z in
         let b = pick_none (leb r.postings n) 26 _ a.1 in
         let c = pick_none (leb d (device q)) 27 _ b.1 in
         let e = pick_none (leb d far) 28 _ c.1 in
@@ -133,28 +124,28 @@ module _ (r : Room) (last posts : List ℕ) (count begin n : ℕ) {q : ℕ} (hc 
     longer v h = rw (add-one n, take-suc-set posts n v, drop-append-le begin (take n posts) (v ∷ []) (omega (arith, length-take-le n posts (omega arith))))
 
     module _ (kind : ℕ) (p : is_posting kind ≡ true) where
-      refusal_is : (m : State) → Before last count begin m → line_refusal r (posts_made m posts n postings) (with_number kind d) ≡ x
+      refusal_is : (m : State) → Before last count begin m → line_refusal r (posts_made m posts n postings) (with_number kind d) ≡ row
       refusal_is m b =
           posting_rows r m posts n d kind p
-          ∙ rw (current_is m b, b.lasts, length-take-le count last hc, length-take-le n posts (omega arith), ← newest)
+          ∙ rw (current_is m b, b.lasts, length-take-le count last hc, length-take-le n posts (omega arith), ← newest_is)
           (same_rows (eqb d 0 || ltb count d) (leb r.postings n) (leb d (device q)) (shadowed (take count last) (slice begin n posts) d) (leb d far)
-          (λ i t. shadow_is (in_range d count i).0 (omega (flags, t))) ∙ sym ex)
+          (λ i t. shadow_is (in_range d count i).0 (omega (flags, t))))
 
-      pub post_refused : (x ≡ 0 → ⊥) → Adds r last posts count begin n kind d posts x
-      post_refused g = record { refusal_is = refusal_is; adds = λ z. absurd (g z); fits = hp; holds = λ z. absurd (g z); sound = λ z. absurd (g z) }
+      pub post_barred : {line : ℕ} {e : Refused} → Tells row line e → Bars r last posts count begin n kind d line e
+      post_barred t = record { tells = λ m b. rw (refusal_is m b) t }
 
-      pub post_added : {v : ℕ} → x ≡ 0 → v ≡ posting d (eqb kind all_line) → Adds r last posts count begin n kind d (set posts n v) 0
+      pub post_added : {v : ℕ} → row ≡ 0 → v ≡ posting d (eqb kind all_line) → Adds r last posts count begin n kind d (set posts n v)
       post_added {v} z ev =
           let g = post_fits z in
           let i : n < length posts = omega arith in
           let dv : device v ≡ d = rw ev (device_of d (eqb kind all_line)) in
           record {
-            refusal_is = λ m b. refusal_is m b ∙ z;
-            adds = λ _ m. posting_next r m posts n d kind p ∙ rw (add-one n, take-suc-set posts n v, ev);
+            taken = λ m b. refusal_is m b ∙ z;
+            adds = λ m. posting_next r m posts n d kind p ∙ rw (add-one n, take-suc-set posts n v, ev);
             fits = simp length-set hp;
-            holds = λ _. omega arith;
-            sound = λ _. rw (longer v i)
-                (sound_more (take count last) (slice begin n posts) sound v (omega arith) (omega (arith, length-take-le count last hc)) (rw (← newest) (omega arith))
+            holds = omega arith;
+            sound = rw (longer v i)
+                (sound_more (take count last) (slice begin n posts) sound v (omega arith) (omega (arith, length-take-le count last hc)) (rw (← newest_is) (omega arith))
                 (rw dv (shadow_is g.0 g.3 ∙ omega (flags, g.4))));
           }
 
@@ -186,18 +177,19 @@ module _ {r : Room} {t last posts : List ℕ} {count begin since : ℕ} {p : Pla
       let s = next_line t p.at x e.start.at_line in
       record { fits = s.fits; within = s.within; lined = omega (arith, past_line t p.at x e.start.at_line h) }
 
-  module _ (w : not v ≡ true) {y : ℕ} (u : y ≡ kind_refusal close_line g.form.kind) where
-    pub posts_refused : (y ≡ 0 → ⊥) → SamePosts last count begin A (λ m. no y p.line)
-    posts_refused h = record {
+  module _ (w : v ≡ false) where
+    pub posts_refused : {x : Refused} → Tells (kind_refusal close_line g.form.kind) p.line x →
+        SamePosts last count begin A (λ m. refused_by x)
+    posts_refused u = record {
       same = λ m b.
           up_to_line.same m b
-          ∙ form_refused r (posts_made m posts p.count postings) p.line (drop g.next t) g.form y
-          (not_due r (posts_made m posts p.count postings) g.form close_line refl (λ i. omega arith) (λ z. h (u ∙ z)) (λ c. rw (← q, (not_yes v).0 w, c)) ∙ sym u) h;
+          ∙ line_refused r (posts_made m posts p.count postings) p.line (drop g.next t) g.form
+          (kind_refused r (posts_made m posts p.count postings) g.form close_line refl (λ i. omega arith) u (λ c. rw (← q, w, c)));
     }
 
-    module _ (z : y ≡ 0) where
+    module _ (z : kind_refusal close_line g.form.kind ≡ 0) where
       closes : g.form.kind ≡ close_line
-      closes = is_due close_line g.form.kind (sym u ∙ z)
+      closes = is_due close_line g.form.kind z
 
       pub posts_ended : PostsAt r t last count begin A (since + 1) terms posts (line_after p g.next)
       unfolding line_refusal next
@@ -221,46 +213,43 @@ module _ {r : Room} {t last posts : List ℕ} {count begin since : ℕ} {p : Pla
         sound = e.sound;
       }
 
-  module _ (w : not v ≡ false) where
-    pub posting_here : is_posting g.form.kind ≡ true
-    posting_here = sym q ∙ (not_no v).0 w
+  module _ (w : v ≡ true) where
+    posting_here : is_posting g.form.kind ≡ true
+    posting_here = sym q ∙ w
 
     whole : g.form.kind ≡ unfinished → ⊥
     whole = posting_kinds (λ k. k ≡ unfinished → ⊥) g.form.kind posting_here (λ i. omega arith) (λ i. omega arith)
 
-    pub posting_moves : (p.at < g.next) × (g.next ≤ length t)
-    posting_moves = (found_moves t p.at x whole, (next_line t p.at x e.start.at_line).within)
+    at_posting : SamePosts last count begin A
+        (λ m. from_form r (posts_made m posts p.count postings) (with_number g.form.kind g.form.number) p.line (drop g.next t))
+    at_posting = record {
+      same = λ m b. up_to_line.same m b ∙ at_kind r (posts_made m posts p.count postings) p.line (drop g.next t) g.form refl;
+    }
 
-    module _ {posts' : List ℕ} {y : ℕ} (ad : Adds r last posts count begin p.count g.form.kind g.form.number posts' y) where
-      at_posting : SamePosts last count begin A
-          (λ m. from_form r (posts_made m posts p.count postings) (with_number g.form.kind g.form.number) p.line (drop g.next t))
-      at_posting = record {
-        same = λ m b. up_to_line.same m b ∙ at_kind r (posts_made m posts p.count postings) p.line (drop g.next t) g.form refl;
-      }
+    pub posting_refused : {y : Refused} → Bars r last posts count begin p.count g.form.kind g.form.number p.line y → SamePosts last count begin A (λ m. refused_by y)
+    posting_refused ba = record {
+      same = λ m b.
+          at_posting.same m b
+          ∙ line_refused r (posts_made m posts p.count postings) p.line (drop g.next t) (with_number g.form.kind g.form.number) (ba.tells m b);
+    }
 
-      pub posting_refused : (y ≡ 0 → ⊥) → SamePosts last count begin A (λ m. no y p.line)
-      posting_refused h = record {
+    pub posting_added : {posts' : List ℕ} → Adds r last posts count begin p.count g.form.kind g.form.number posts' →
+        PostsAt r t last count begin A since postings posts' (more_at p g.next)
+    posting_added ad = record {
+      reads = record {
         same = λ m b.
             at_posting.same m b
-            ∙ form_refused r (posts_made m posts p.count postings) p.line (drop g.next t) (with_number g.form.kind g.form.number) y (ad.refusal_is m b) h;
-      }
-
-      pub posting_added : y ≡ 0 → PostsAt r t last count begin A since postings posts' (more_at p g.next)
-      posting_added z = record {
-        reads = record {
-          same = λ m b.
-              at_posting.same m b
-              ∙ form_taken r (posts_made m posts p.count postings) p.line (drop g.next t) (with_number g.form.kind g.form.number) (ad.refusal_is m b ∙ z) (ad.adds z m);
-        };
-        start = let s = e.start in record {
-          at_line = past whole;
-          bounded = s.bounded;
-          devices = s.devices;
-          lasts = s.lasts;
-          fits = ad.fits;
-          holds = ad.holds z;
-        };
-        more = omega (arith, e.more);
-        onward = omega (arith, e.onward, posting_moves);
-        sound = ad.sound z;
-      }
+            ∙ form_taken r (posts_made m posts p.count postings) p.line (drop g.next t) (with_number g.form.kind g.form.number) (ad.taken m b) (ad.adds m);
+      };
+      start = let s = e.start in record {
+        at_line = past whole;
+        bounded = s.bounded;
+        devices = s.devices;
+        lasts = s.lasts;
+        fits = ad.fits;
+        holds = ad.holds;
+      };
+      more = omega (arith, e.more);
+      onward = omega (arith, e.onward, found_moves t p.at x whole);
+      sound = ad.sound;
+    }

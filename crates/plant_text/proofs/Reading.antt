@@ -19,6 +19,9 @@ use Rattle.text.specs.inner.Finding.{capped_form, form_at, found_at}
 use Rattle.text.specs.Reading.{Step, refused, no, unless, and_then}
 use Rattle.text.specs.declared.Form.{Form}
 use Rattle.text.specs.declared.Found.{Found}
+use Rattle.text.specs.declared.Refused.{Refused}
+use Rattle.refusal.specs.Numbers.{number}
+use Rattle.refusal.proofs.Numbers.{number_not_zero}
 use Rattle.text.proofs.Decimal.{capped_step}
 use Rattle.text.proofs.Lines.{next_within, next_onward, next_from}
 use Rattle.text.proofs.Forms.{whole_kind}
@@ -26,7 +29,7 @@ use Rattle.text.proofs.Reading as texts
 use Rattle.text.proofs.Reading.{Refuses}
 use Rattle.plant_text.specs.Form.{plant_line, device_line, term_line, own_line, all_line, rows, is_posting, numbered}
 use Rattle.plant_text.specs.PlantText.{State, is, closed, stands, misplaced, out_of_range, line_refusal, next, step}
-use Rattle.plant_text.specs.inner.Rest.{from, from_form, with_number, highest_known, ReadingAt, kind_refusal}
+use Rattle.plant_text.specs.inner.Rest.{from, from_form, with_number, highest_known, ReadingAt, kind_refusal, Tells, refused_by}
 use Rattle.plant_text.specs.declared.Room.{Room}
 use Rattle.plant_text.specs.declared.lines.Place.{Place}
 
@@ -41,6 +44,9 @@ module _ (r : Room) (m : State) (k : ℕ) (s : List ℕ) where
   -- line k is refused, or taken
   pub form_refused : (f : Form) (x : ℕ) → line_refusal r m f ≡ x → (x ≡ 0 → ⊥) → from_form r m f k s ≡ no x k
   form_refused f x e h = rw e (texts.stops (λ m'. from r m' (k + 1) s) x k (next m f) h)
+
+  pub line_refused : (f : Form) {e : Refused} → Tells (line_refusal r m f) k e → from_form r m f k s ≡ refused_by e
+  line_refused f {e} t = rw t.line_is (form_refused f (number e.refusal) (sym t.number_is) (number_not_zero e.refusal))
 
   pub form_taken : (f : Form) {m' : State} → line_refusal r m f ≡ 0 → next m f ≡ m' → from_form r m f k s ≡ from r m' (k + 1) s
   form_taken f e q = rw (e, q)
@@ -143,14 +149,14 @@ posting_kinds F k e a b =
     (λ p. let q : eqb k all_line ≡ true = rw p at e in subst F (sym (eqb-true k all_line q)) b)
 
 -- where only one kind of line may stand
-refused_by : (a b : Bool) (x : ℕ) → b ≡ true → pick a 24 (pick b 21 x) ≡ pick a 24 21
-refused_by true b x e = refl
-refused_by false b x e = rw e
+other_kind : (a b : Bool) (x : ℕ) → b ≡ true → pick a 24 (pick b 21 x) ≡ pick a 24 21
+other_kind true b x e = refl
+other_kind false b x e = rw e
 
 pub not_standing : (r : Room) (m : State) (f : Form) → is closed m ≡ false → stands m.stage m.opened f.kind ≡ false →
     line_refusal r m f ≡ pick (eqb f.kind unfinished) 24 21
 unfolding line_refusal
-not_standing r m f o e = rw o (refused_by (eqb f.kind unfinished) (misplaced m f) _ (rw e))
+not_standing r m f o e = rw o (other_kind (eqb f.kind unfinished) (misplaced m f) _ (rw e))
 
 module _ (due kind : ℕ) where
   pub is_due : kind_refusal due kind ≡ 0 → kind ≡ due
@@ -167,4 +173,11 @@ pub not_due : (r : Room) (m : State) (f : Form) (due : ℕ) → is closed m ≡ 
     (eqb f.kind due ≡ false → stands m.stage m.opened f.kind ≡ false) → line_refusal r m f ≡ kind_refusal due f.kind
 not_due r m f due o n h e =
     let c = another due f.kind n h in
-    not_standing r m f o (e c) ∙ sym (refused_by (eqb f.kind unfinished) (not (eqb f.kind due)) _ (rw c))
+    not_standing r m f o (e c) ∙ sym (other_kind (eqb f.kind unfinished) (not (eqb f.kind due)) _ (rw c))
+
+-- and what refuses it says so
+pub kind_refused : (r : Room) (m : State) (f : Form) (due : ℕ) → is closed m ≡ false → (due ≡ unfinished → ⊥) → {e : Refused} {k : ℕ} → Tells (kind_refusal due f.kind) k e →
+    (eqb f.kind due ≡ false → stands m.stage m.opened f.kind ≡ false) → Tells (line_refusal r m f) k e
+kind_refused r m f due o n {e} t h =
+    let q = t.number_is in
+    record { number_is = q ∙ sym (not_due r m f due o n (λ z. number_not_zero e.refusal (q ∙ z)) h); line_is = t.line_is }

@@ -1,6 +1,6 @@
 -- Plant text, read line by line: what it makes, and document 01's rows 20 to 29 without 26, which no text gave (document 02, §13;
 -- proofs/Row26.antt).
-use Rattle.std.specs.Prelude.{ℕ, ◌+◌, ◌-◌, min, Bool, true, false, cond, ◌&&◌, ◌||◌, not, List, [], ◌∷◌, ◌++◌, leb, ltb, eqb, length, set}
+use Rattle.std.specs.Prelude.{ℕ, ◌+◌, ◌-◌, min, Bool, true, false, cond, ◌&&◌, ◌||◌, not, List, [], ◌∷◌, ◌++◌, leb, ltb, eqb, length, set, Result, Ok, Err}
 use Rattle.laws.specs.Lent.{filled}
 use Rattle.laws.specs.Limits.{most_devices, highest_term}
 use Rattle.laws.specs.Rows.{pick}
@@ -9,12 +9,13 @@ use Rattle.plant.specs.Plant.{Plant, plant, size}
 use Rattle.index.specs.Postings.{posting, device, shadowed}
 use Rattle.index.specs.Index.{Index, index, count, list, most_terms, most_postings}
 use Rattle.text.specs.Forms.{unfinished}
-use Rattle.text.specs.Reading.{Step, Read, made, no, unless, reading_forms}
+use Rattle.refusal.specs.Numbers.{number}
+use Rattle.text.specs.Reading.{Step, Read, made, no, unless, reading_forms, refused_at}
 use Rattle.text.specs.declared.Form.{Form}
+use Rattle.text.specs.declared.Refused.{Refused}
 use Rattle.plant_text.specs.Form.{plant_line, device_line, term_line, all_line, close_line, rows, is_posting, numbered}
 use Rattle.plant_text.specs.declared.Room.{Room}
-use Rattle.plant_text.specs.declared.Outcome.{Outcome}
-use Rattle.plant_text.specs.declared.Outcome.TheVariants as outcome
+use Rattle.plant_text.specs.declared.Counts.{Counts}
 
 -- 20: "over 65,536 bytes (line 0)"
 abbrev pub longest_text : ℕ
@@ -195,9 +196,12 @@ abbrev pub read_into : List ℕ → Plant → Index → Read State
 read_into text P I = read_plant (room P I) text
 
 -- "Success gives the numbers of devices, marks and postings"; a refusal "gives the number and the line"
-abbrev pub outcome_of : Read State → Outcome
-outcome_of (made m) = outcome.Made (size m.plant) (count m.index) (length m.index.postings)
-outcome_of (no n k) = outcome.Refused n k
+abbrev pub counts : ℕ → ℕ → ℕ → Counts
+counts d n p = record { devices = d; terms = n; postings = p }
+
+abbrev pub outcome_of : Read State → Result Counts Refused
+outcome_of (made m) = Ok (counts (size m.plant) (count m.index) (length m.index.postings))
+outcome_of (no n k) = Err (refused_at n k)
 
 -- An outcome in document 01's numbers, case by case: its number, 0 or the refusal; and its values, the line of a refusal, or the numbers of devices,
 -- terms and postings. A value that a case does not have is 0.
@@ -213,13 +217,13 @@ counted d n p = record { line = 0; devices = d; terms = n; postings = p }
 abbrev pub at_line : ℕ → Values
 at_line k = record { line = k; devices = 0; terms = 0; postings = 0 }
 
-abbrev pub outcome_number : Outcome → ℕ
-outcome_number (outcome.Made d n p) = 0
-outcome_number (outcome.Refused n k) = n
+abbrev pub outcome_number : Result Counts Refused → ℕ
+outcome_number (Ok c) = 0
+outcome_number (Err e) = number e.refusal
 
-abbrev pub outcome_values : Outcome → Values
-outcome_values (outcome.Made d n p) = counted d n p
-outcome_values (outcome.Refused n k) = at_line k
+abbrev pub outcome_values : Result Counts Refused → Values
+outcome_values (Ok c) = counted c.devices c.terms c.postings
+outcome_values (Err e) = at_line e.line
 
 -- and those of what a text comes to
 abbrev pub read_number : Read State → ℕ
@@ -236,7 +240,7 @@ kept (made m) = m
 kept (no n k) = nothing
 
 -- what reading a text into P and I answers, and what the tables hold then
-abbrev pub outcome_after : List ℕ → Plant → Index → Outcome
+abbrev pub outcome_after : List ℕ → Plant → Index → Result Counts Refused
 outcome_after text P I = outcome_of (read_into text P I)
 
 abbrev pub plant_after : List ℕ → Plant → Index → Plant

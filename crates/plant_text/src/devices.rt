@@ -1,46 +1,42 @@
 // The readers of devices.
-ghost use Rattle.std.specs.Prelude.{◌≡◌, cond, ◌+◌, ◌≤◌, ◌<◌, leb, ltb, eqb, length, set};
+ghost use Rattle.std.specs.Prelude.{◌≡◌, ◌+◌, ◌≤◌, ◌<◌, leb, ltb, length, set};
 ghost use Rattle.laws.specs.Limits.{most_devices};
 ghost use Rattle.laws.specs.Rows.{pick};
 ghost use Rattle.plant.specs.Plant.{plant};
 ghost use Rattle.plant_text.specs.PlantText.{longest_text, highest_code, most_open};
-ghost use Rattle.plant_text.specs.inner.Rest.{line_after};
+ghost use Rattle.plant_text.specs.inner.Rest.{line_after, Taken};
 ghost use Rattle.plant_text.specs.inner.Devices.{opened_at, DeviceStart, DeviceRead, ListStart, ListRead};
 
 use crate::Room;
 use crate::common::close_at;
-use crate::lines::{CLOSE, DEVICE, Ending, Place, device_at, kind_refusal};
-use text::Form;
+use crate::lines::{CLOSE, DEVICE, Place, check_kind, device_at};
+use refusal::Refusal;
+use text::{Form, Refused};
 
-// A list of devices that has been read up to a line that is no device's: its form, where reading goes on after it, and its number; or the
-// number of the refusal and its line.
-#[derive(Clone, Copy)]
-pub enum Listed {
-    Stopped(Form, Place),
-    Refused(u32, u32),
-}
-
-// The outermost open device, once d is open.
-fn outer(depth: u32, top: u16, d: u16) -> u16
-    ensures { result ≡ cond (eqb depth 0) d top }
+// Refuses a device of level n at a place below `depth` open ones.
+fn check_device(room: Room, place: Place, depth: u32, n: u64) -> Result<(), Refused>
+    ensures { Taken (pick (ltb highest_code n) 22 (pick (leb most_open depth) 23 (pick (leb room.devices place.count) 27 0))) place.line result }
 {
-    if depth == 0 { d } else { top }
-}
-
-// Why a device of level n does not open below `depth` others, after `count` of the `most` that there is room for; or 0.
-fn device_refusal(n: u64, depth: u32, most: usize, count: usize) -> u32
-    ensures { result ≡ pick (ltb highest_code n) 22 (pick (leb most_open depth) 23 (pick (leb most count) 27 0)) }
-{
+    let Place { count, line, .. } = place;
     if 255 < n {
-        return 22;
+        return Err(Refused {
+            line,
+            refusal: Refusal::NumberOutOfRange,
+        });
     }
     if 32 <= depth {
-        return 23;
+        return Err(Refused {
+            line,
+            refusal: Refusal::TooDeep,
+        });
     }
-    if most <= count {
-        return 27;
+    if room.devices <= count {
+        return Err(Refused {
+            line,
+            refusal: Refusal::NoPlace,
+        });
     }
-    0
+    Ok(())
 }
 
 // Opens device count + 1, of level n and below the outermost device out.
@@ -63,9 +59,8 @@ fn close_device(count: usize, stop: Place, last: &mut [u16]) -> Place
     let end = stop.count;
     last[count] = end as u16;
     Place {
-        at: stop.at,
         line: stop.line + 1,
-        count: end,
+        ..stop
     }
 }
 
@@ -76,12 +71,12 @@ fn device(
     room: Room,
     place: Place,
     depth: u32,
-    top: u16,
+    top: Option<u16>,
     n: u64,
     last: &mut [u16],
     root: &mut [u16],
     level: &mut [u8],
-) -> Ending
+) -> Result<Place, Refused>
     requires { DeviceStart room text.now (plant last.old root.old level.old) place }
     ensures reads { DeviceRead room text.now
         (plant last.old root.old level.old)
@@ -89,54 +84,42 @@ fn device(
         (plant last.new root.new level.new)
         result }
 {
-    let line = place.line;
-    let count = place.count;
-    let x = device_refusal(n, depth, room.devices, count);
-    if x != 0 {
-        return Ending::Refused(x, line);
-    }
+    check_device(room, place, depth, n)?;
+    let Place { at, count, line } = place;
     let own = (count + 1) as u16;
-    let out = outer(depth, top, own);
+    let out = top.unwrap_or(own);
     open_device(count, out, n, last, root, level);
-    let next = close_at(text, place.at);
-    if 0 < next {
+    if let Some(next) = close_at(text, at) {
         last[count] = own;
-        let after = Place {
+        return Ok(Place {
             at: next,
-            line: line + 2,
             count: count + 1,
-        };
-        return Ending::Ended(after);
+            line: line + 2,
+        });
     }
     let inside = Place {
-        at: place.at,
-        line: line + 1,
+        at,
         count: count + 1,
+        line: line + 1,
     };
-    match devices(text, room, inside, depth + 1, out, last, root, level) {
-        Listed::Refused(y, k) => Ending::Refused(y, k),
-        Listed::Stopped(f, stop) => {
-            let y = kind_refusal(CLOSE, f.kind);
-            if y != 0 {
-                return Ending::Refused(y, stop.line);
-            }
-            Ending::Ended(close_device(count, stop, last))
-        }
-    }
+    let (form, stop) = devices(text, room, inside, depth + 1, Some(out), last, root, level)?;
+    check_kind(CLOSE, form.kind, stop.line)?;
+    Ok(close_device(count, stop, last))
 }
 
-// Reads devices from a place on, up to a line that is no device's.
+// Reads devices from a place on, below `depth` open ones, `top` the outermost. Returns the form of the line that is no device's, and where reading
+// goes on after it, at its number.
 #[cycle(device_devices)]
 pub fn devices(
     text: &[u8],
     room: Room,
     place: Place,
     depth: u32,
-    top: u16,
+    top: Option<u16>,
     last: &mut [u16],
     root: &mut [u16],
     level: &mut [u8],
-) -> Listed
+) -> Result<(Form, Place), Refused>
     requires { ListStart room text.now (plant last.old root.old level.old) place }
     ensures reads { ListRead room text.now
         (plant last.old root.old level.old)
@@ -145,30 +128,27 @@ pub fn devices(
         result }
 {
     let mut p = place;
+    // a round goes past a device, of any number of lines
     loop {
         let found = device_at(text, p.at);
-        let f = found.form;
+        let Form {
+            before,
+            number,
+            kind,
+        } = found.form;
         let here = Place {
             at: found.next,
-            line: p.line,
-            count: p.count,
+            ..p
         };
-        if f.kind != DEVICE {
+        if kind != DEVICE {
             // made anew: handed on whole, it would be read in other pieces than it was written in, and wait for them
             let stopping = Form {
-                before: f.before,
-                number: f.number,
-                kind: f.kind,
+                before,
+                number,
+                kind,
             };
-            return Listed::Stopped(stopping, here);
+            return Ok((stopping, here));
         }
-        match device(text, room, here, depth, top, f.number, last, root, level) {
-            Ending::Refused(x, l) => {
-                return Listed::Refused(x, l);
-            }
-            Ending::Ended(q) => {
-                p = q;
-            }
-        }
+        p = device(text, room, here, depth, top, number, last, root, level)?;
     }
 }

@@ -1,11 +1,10 @@
 // Reads plant text into lent tables.
 #![tactic(auto)]
 
-ghost use Rattle.std.specs.Prelude.{◌≡◌, ◌++◌, ◌-◌, length, take, replicate};
+ghost use Rattle.std.specs.Prelude.{◌≡◌};
 ghost use Rattle.plant.specs.Plant.{plant};
 ghost use Rattle.index.specs.Index.{index};
 ghost use Rattle.plant_text.specs.PlantText.{
-  places,
   outcome_number,
   outcome_values,
   read_number,
@@ -20,11 +19,12 @@ ghost use Rattle.plant_text.specs.inner.Devices.{Fits};
 ghost use Rattle.plant_text.specs.inner.Terms.{FitsIndex};
 ghost use Rattle.plant_text.specs.inner.Whole.{ReadAll};
 
-use crate::devices::{Listed, devices};
-use crate::lines::{PLANT, Place, kind_refusal, line_at};
-use crate::terms::{Closing, read_terms};
-use index::clear;
-use integers::least;
+use crate::devices::devices;
+use crate::lines::{PLANT, Place, check_kind, line_at};
+use crate::terms::read_terms;
+use index::fill_from;
+use refusal::Refusal;
+use text::Refused;
 
 mod common;
 mod devices;
@@ -32,21 +32,23 @@ mod lines;
 mod terms;
 
 // How many devices, terms and postings the lent tables have places for.
-#[derive(Clone, Copy)]
+#[derive(Clone, Copy, Debug, PartialEq, Eq)]
 pub struct Room {
     pub devices: usize,
     pub terms: usize,
     pub postings: usize,
 }
 
-// What a text comes to: the numbers of devices, terms and postings, or the number of the refusal and its line.
-#[derive(Clone, Copy)]
-pub enum Outcome {
-    Made(usize, usize, usize),
-    Refused(u32, u32),
+// How many devices, terms and postings a text makes.
+#[derive(Clone, Copy, Debug, PartialEq, Eq)]
+pub struct Counts {
+    pub devices: usize,
+    pub terms: usize,
+    pub postings: usize,
 }
 
 // Reads a text into the tables. What is beyond the counts is 0, and so is all where the text is refused.
+// Kept: six tables one by one, here and below (`plant_search_read_plant` lends six): a struct of `&mut` asks of each function that it keeps each loan.
 pub fn read(
     text: &[u8],
     last: &mut [u16],
@@ -55,7 +57,7 @@ pub fn read(
     terms: &mut [u16],
     starts: &mut [u32],
     postings: &mut [u32],
-) -> Outcome
+) -> Result<Counts, Refused>
     ensures outcome { result ≡ outcome_after text.now
         (plant last.old root.old level.old)
         (index terms.old starts.old postings.old) }
@@ -74,46 +76,24 @@ pub fn read(
         (plant last.old root.old level.old)
         (index terms.old starts.old postings.old)) }
 {
-    let room = room_of(
-        last.len(),
-        root.len(),
-        level.len(),
-        terms.len(),
-        starts.len(),
-        postings.len(),
-    );
-    let r = read_all(text, room, last, root, level, terms, starts, postings);
-    let d = devices_in(r);
-    let n = terms_in(r);
-    let p = postings_in(r);
-    clear16(last, d);
-    clear16(root, d);
-    clear8(level, d);
-    clear16(terms, n);
-    clear(starts, n);
-    clear(postings, p);
-    r
-}
-
-// The room of tables of these lengths.
-fn room_of(
-    last: usize,
-    root: usize,
-    level: usize,
-    terms: usize,
-    starts: usize,
-    postings: usize,
-) -> Room
-    ensures { result ≡ places last root level terms starts postings }
-{
-    let devices = least(65_535, least(last, least(root, level)));
-    let both = least(8_192, least(terms, starts));
-    let most = least(1_048_576, postings);
-    Room {
-        devices: devices,
-        terms: both,
-        postings: most,
-    }
+    let room = Room {
+        devices: last.len().min(root.len()).min(level.len()).min(65_535),
+        terms: terms.len().min(starts.len()).min(8_192),
+        postings: postings.len().min(1_048_576),
+    };
+    let made = read_all(text, room, last, root, level, terms, starts, postings);
+    let counts = made.unwrap_or(Counts {
+        devices: 0,
+        terms: 0,
+        postings: 0,
+    });
+    fill_from(last, counts.devices, 0);
+    fill_from(root, counts.devices, 0);
+    fill_from(level, counts.devices, 0);
+    fill_from(terms, counts.terms, 0);
+    fill_from(starts, counts.terms, 0);
+    fill_from(postings, counts.postings, 0);
+    made
 }
 
 // Reads a text into the tables, and leaves what is beyond the counts.
@@ -126,7 +106,7 @@ fn read_all(
     terms: &mut [u16],
     starts: &mut [u32],
     postings: &mut [u32],
-) -> Outcome
+) -> Result<Counts, Refused>
     requires bounded { Bounded room }
     requires fits { Fits room (plant last.old root.old level.old) }
     requires fits_index { FitsIndex room (index terms.old starts.old postings.old) }
@@ -136,79 +116,29 @@ fn read_all(
         result }
 {
     if 65_536 < text.len() {
-        return Outcome::Refused(20, 0);
+        return Err(Refused {
+            line: 0,
+            refusal: Refusal::PlantTooLong,
+        });
     }
     let first = line_at(text, 0);
-    let f = first.form;
-    let x = kind_refusal(PLANT, f.kind);
-    if x != 0 {
-        return Outcome::Refused(x, 1);
-    }
+    check_kind(PLANT, first.form.kind, 1)?;
     let begin = Place {
         at: first.next,
-        line: 2,
         count: 0,
+        line: 2,
     };
-    match devices(text, room, begin, 0, 0, last, root, level) {
-        Listed::Refused(y, k) => Outcome::Refused(y, k),
-        Listed::Stopped(g, stop) => {
-            match read_terms(text, room, g, stop, last, terms, starts, postings) {
-                Closing::Refused(y, l) => Outcome::Refused(y, l),
-                Closing::Closed(n, end) => {
-                    if end.at < text.len() {
-                        return Outcome::Refused(25, end.line);
-                    }
-                    Outcome::Made(stop.count, n, end.count)
-                }
-            }
-        }
+    let (form, stop) = devices(text, room, begin, 0, None, last, root, level)?;
+    let (count, end) = read_terms(text, room, form, stop, last, terms, starts, postings)?;
+    if end.at < text.len() {
+        return Err(Refused {
+            line: end.line,
+            refusal: Refusal::BytesAfterPlant,
+        });
     }
-}
-
-fn devices_in(r: Outcome) -> usize
-    ensures { result ≡ (outcome_values r).devices }
-{
-    match r {
-        Outcome::Made(d, _, _) => d,
-        Outcome::Refused(_, _) => 0,
-    }
-}
-
-fn terms_in(r: Outcome) -> usize
-    ensures { result ≡ (outcome_values r).terms }
-{
-    match r {
-        Outcome::Made(_, n, _) => n,
-        Outcome::Refused(_, _) => 0,
-    }
-}
-
-fn postings_in(r: Outcome) -> usize
-    ensures { result ≡ (outcome_values r).postings }
-{
-    match r {
-        Outcome::Made(_, _, p) => p,
-        Outcome::Refused(_, _) => 0,
-    }
-}
-
-// Sets a table to 0 from an index on, as `index::clear` does one of 32 bits.
-fn clear8(table: &mut [u8], from: usize)
-    ensures { table.new ≡ take from table.old ++ replicate (length table.old - from) 0 }
-{
-    let mut i = from;
-    while i < table.len() {
-        table[i] = 0;
-        i += 1;
-    }
-}
-
-fn clear16(table: &mut [u16], from: usize)
-    ensures { table.new ≡ take from table.old ++ replicate (length table.old - from) 0 }
-{
-    let mut i = from;
-    while i < table.len() {
-        table[i] = 0;
-        i += 1;
-    }
+    Ok(Counts {
+        devices: stop.count,
+        terms: count,
+        postings: end.count,
+    })
 }

@@ -2,10 +2,11 @@
 ghost use Rattle.std.specs.Prelude.{◌≡◌, ◌≤◌, length};
 ghost use Rattle.text.specs.inner.Finding.{found_at};
 ghost use Rattle.plant_text.specs.Form.{rows, is_posting};
-ghost use Rattle.plant_text.specs.inner.Rest.{highest_known, kind_refusal};
+ghost use Rattle.plant_text.specs.inner.Rest.{highest_known, kind_refusal, Taken};
 
 use crate::common::{close_at, device_line, line_of, posting_line, term_line};
-use text::Found;
+use refusal::Refusal;
+use text::{Found, Refused};
 
 // Numbers above this are read as one above it.
 pub const LIMIT: u32 = 65_535;
@@ -26,18 +27,11 @@ pub const ALL: u32 = 6;
 pub const CLOSE: u32 = 7;
 
 // Where reading goes on, at which line, with how many devices or postings.
-#[derive(Clone, Copy)]
+#[derive(Clone, Copy, Debug, PartialEq, Eq)]
 pub struct Place {
     pub at: usize,
     pub count: usize,
     pub line: u32,
-}
-
-// What has been read to its end: where reading goes on; or the number of the refusal and its line.
-#[derive(Clone, Copy)]
-pub enum Ending {
-    Ended(Place),
-    Refused(u32, u32),
 }
 
 // The line that begins at `at`.
@@ -45,15 +39,10 @@ pub fn line_at(text: &[u8], at: usize) -> Found
     requires { at ≤ length text.now }
     ensures { result ≡ found_at highest_known rows text.now at }
 {
-    let next = close_at(text, at);
-    if 0 < next {
+    if let Some(next) = close_at(text, at) {
         return line_of(CLOSE, 0, next);
     }
-    let term = term_line(text, at);
-    if 0 < term.next {
-        return term;
-    }
-    plain_line(text, at)
+    term_line(text, at).unwrap_or_else(|| plain_line(text, at))
 }
 
 // The same, where a device's line is likely.
@@ -61,11 +50,7 @@ pub fn device_at(text: &[u8], at: usize) -> Found
     requires { at ≤ length text.now }
     ensures { result ≡ found_at highest_known rows text.now at }
 {
-    let found = device_line(text, at);
-    if 0 < found.next {
-        return found;
-    }
-    line_at(text, at)
+    device_line(text, at).unwrap_or_else(|| line_at(text, at))
 }
 
 // The same, where a posting's line is likely.
@@ -73,11 +58,7 @@ pub fn posting_at(text: &[u8], at: usize) -> Found
     requires { at ≤ length text.now }
     ensures { result ≡ found_at highest_known rows text.now at }
 {
-    let found = posting_line(text, at);
-    if 0 < found.next {
-        return found;
-    }
-    line_at(text, at)
+    posting_line(text, at).unwrap_or_else(|| line_at(text, at))
 }
 
 // The same by the rows of the table, one asked after the other.
@@ -99,18 +80,24 @@ fn plain_line(text: &[u8], at: usize) -> Found
 pub fn is_posting(kind: u32) -> bool
     ensures { result ≡ is_posting kind }
 {
-    kind == OWN || kind == ALL
+    matches!(kind, OWN | ALL)
 }
 
-// Why a line of a kind is not taken where only the kind that is due may stand; or 0 where it is of that kind.
-pub fn kind_refusal(due: u32, kind: u32) -> u32
-    ensures { result ≡ kind_refusal due kind }
+// Refuses a line of a kind where only the kind that is due may stand.
+pub fn check_kind(due: u32, kind: u32, line: u32) -> Result<(), Refused>
+    ensures { Taken (kind_refusal due kind) line result }
 {
     if kind == UNFINISHED {
-        return 24;
+        return Err(Refused {
+            line,
+            refusal: Refusal::UnfinishedPlant,
+        });
     }
     if kind != due {
-        return 21;
+        return Err(Refused {
+            line,
+            refusal: Refusal::PlantForm,
+        });
     }
-    0
+    Ok(())
 }

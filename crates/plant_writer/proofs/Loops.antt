@@ -1,29 +1,25 @@
 -- What the functions that write have written.
 use Prim.Native.Nat.{ℕ, suc, ◌+◌, ◌-◌, ◌%◌, ◌≤◌, ◌<◌}
-use mathlib.Core.Path.{◌≡◌, refl, sym, ap, ◌∙◌}
-use mathlib.Core.Bool.{Bool, true, false, cond}
-use mathlib.Core.List.{List, [], ◌∷◌, ◌++◌, map, append_assoc, append-nil}
+use mathlib.Core.Path.{◌≡◌, refl, sym, ◌∙◌}
+use mathlib.Core.List.{List, [], ◌∷◌, ◌++◌, map, map-append, append_assoc, append-nil}
 use native.Mathlib.Omega.{arith}
 use native.Mathlib.Numerals.{add-one}
 use borrow.Author.Tests.{eq-eqb, ne_eqb}
 use lib.ListN.{length, take, get_or}
-use lib.Seq.{take-suc, take_all}
-use Rattle.plant.specs.Plant.{plant}
-use Rattle.index.specs.Postings.{device, shared}
+use lib.Seq.{take-suc}
+use Rattle.plant.specs.Plant.{Plant, size}
+use Rattle.index.specs.Postings.{device}
 use Rattle.index.specs.Index.{Index, index, count, list}
 use Rattle.text.specs.Decimal.{numeral}
-use Rattle.text.specs.Patterns.{bytes}
 use Rattle.text.specs.Forms.{plain, with_number}
 use Rattle.writing.specs.Writing.{Writes}
-use Rattle.text.specs.declared.Form.{Form}
 use Rattle.writing.specs.inner.Puts.{Puts}
 use Rattle.writing.proofs.Writing.{puts, puts_none, ◌then◌}
-use Rattle.plant_text.specs.Form.{device_line, term_line, own_line, all_line, close_line}
+use Rattle.plant_text.specs.Form.{device_line, term_line, close_line}
 use Rattle.written_text.specs.Forms.{posting_form, term_forms, terms_forms}
 use Rattle.written_text.specs.Text.{bytes_of, text_of}
 use Rattle.written_text.specs.inner.Nested.{Nested, Tiered, stretch}
 use Rattle.written_text.proofs.Stretches.{first_end, nested_first, nested_rest}
-use Rattle.plant_writer.specs.inner.PutUnless.{PutUnless}
 use Rattle.plant_writer.proofs.Depths.{tiered_first, tiered_rest}
 use Rattle.plant_writer.proofs.Bytes.{bytes_append, bytes_none, word_dev, word_mark, word_own, word_all, word_plant, word_close, device_bytes, term_bytes, own_bytes, all_bytes, close_bytes, plant_bytes, stretch_end, stretch_bytes, term_parts, text_parts}
 
@@ -40,27 +36,16 @@ module _ {l l' : List ℕ} {at next : ℕ} where
   pub term_put : {t n : ℕ} → n ≡ t → Puts l at (word_mark ++ (numeral n ++ (10 ∷ []))) l' next → Puts l at (bytes_of (with_number term_line t ∷ [])) l' next
   term_put {t} e p = rw (term_bytes t, ← e) p
 
-  pub posting_put : (q : ℕ) {l₁ : List ℕ} {first : ℕ} → Puts l at (cond (shared q) (bytes "(all ") (bytes "(own ")) l₁ first →
-      Puts l₁ first (numeral (device q) ++ word_close) l' next → Puts l at (bytes_of (posting_form q ∷ [])) l' next
-  unfolding bytes
-  posting_put q {l₁} {first} o p = go (shared q) o
-    where
-      go : (b : Bool) → Puts l at (cond b word_all word_own) l₁ first → Puts l at (bytes_of (with_number (cond b all_line own_line) (device q) ∷ [])) l' next
-      go true o = rw (all_bytes (device q)) (o then p)
-      go false o = rw (own_bytes (device q)) (o then p)
+  -- a posting, by what its word is
+  module _ (q : ℕ) where
+    pub shared_put : q % 2 ≡ 1 → Puts l at (word_all ++ (numeral (device q) ++ word_close)) l' next → Puts l at (bytes_of (posting_form q ∷ [])) l' next
+    shared_put h p = rw (eq-eqb (q % 2) 1 h, all_bytes (device q)) p
+
+    pub private_put : (q % 2 ≡ 1 → ⊥) → Puts l at (word_own ++ (numeral (device q) ++ word_close)) l' next → Puts l at (bytes_of (posting_form q ∷ [])) l' next
+    private_put h p = rw (ne_eqb (q % 2) 1 h, own_bytes (device q)) p
 
 pub close_put : {l l' : List ℕ} {at count : ℕ} → Writes l at word_close l' count → Puts l at (bytes_of (plain close_line ∷ [])) l' (at + count)
 close_put p = rw close_bytes (puts p)
-
--- how a posting begins
-module _ (q : ℕ) {l l' : List ℕ} {at count : ℕ} where
-  pub open_shared : q % 2 ≡ 1 → Writes l at word_all l' count → Puts l at (cond (shared q) (bytes "(all ") (bytes "(own ")) l' (at + count)
-  unfolding bytes
-  open_shared h p = rw (eq-eqb (q % 2) 1 h) (puts p)
-
-  pub open_private : (q % 2 ≡ 1 → ⊥) → Writes l at word_own l' count → Puts l at (cond (shared q) (bytes "(all ") (bytes "(own ")) l' (at + count)
-  unfolding bytes
-  open_private h p = rw (ne_eqb (q % 2) 1 h) (puts p)
 
 -- ---- devices: those up to i are written, and those after i are left
 
@@ -111,32 +96,22 @@ module _ {last level out : List ℕ} {at a e depth : ℕ} {o₁ : List ℕ} {n�
         regroup : (d f i c r : List ℕ) → d ++ (f ++ (i ++ (c ++ r))) ≡ (d ++ (f ++ (i ++ c))) ++ r
         regroup d f i c r = simp append_assoc
 
--- ---- postings: all but the last `left` of a list are written
+-- ---- postings: the first i of a list are written
 
-pub record PostingsPut (l out : List ℕ) (at : ℕ) (out' : List ℕ) (next left : ℕ) : Type 0 where
-  pub within : left ≤ length l
-  pub put : Puts out at (bytes_of (map posting_form (take (length l - left) l))) out' next
-
-map_last : (a : List ℕ) (q : ℕ) → map posting_form (a ++ (q ∷ [])) ≡ map posting_form a ++ (posting_form q ∷ [])
-map_last [] q = refl
-map_last (x ∷ a) q = ap (λ (t : List Form). posting_form x ∷ t) (map_last a q)
+pub record PostingsPut (l out : List ℕ) (at : ℕ) (out' : List ℕ) (next i : ℕ) : Type 0 where
+  pub within : i ≤ length l
+  pub put : Puts out at (bytes_of (map posting_form (take i l))) out' next
 
 module _ {l out : List ℕ} {at : ℕ} where
-  pub postings_none : PostingsPut l out at out at (length l)
-  postings_none = let z : length l - length l ≡ 0 = omega arith in record { within = omega arith; put = rw (z, bytes_none) puts_none }
+  pub postings_none : PostingsPut l out at out at 0
+  postings_none = record { within = omega arith; put = rw bytes_none puts_none }
 
-  module _ {o₁ : List ℕ} {n₁ left : ℕ} (s : PostingsPut l out at o₁ n₁ left) where
-    pub postings_more : {o₂ : List ℕ} {n₂ : ℕ} → 0 < left → Puts o₁ n₁ (bytes_of (posting_form (get_or l (length l - left) 0) ∷ [])) o₂ n₂ → PostingsPut l out at o₂ n₂ (left - 1)
-    postings_more h p =
-        let i = length l - left in
-        let z : length l - (left - 1) ≡ suc i = omega (arith, s.within) in
-        record {
-          within = omega (arith, s.within);
-          put = rw (z, take-suc l i 0 (omega (arith, s.within)), map_last (take i l) (get_or l i 0), bytes_append (map posting_form (take i l)) (posting_form (get_or l i 0) ∷ [])) (s.put then p);
-        }
-
-    pub postings_put : left ≤ 0 → Puts out at (bytes_of (map posting_form l)) o₁ n₁
-    postings_put h = rw (take_all (length l - left) l (omega arith)) at s.put
+  module _ {o₁ : List ℕ} {n₁ i : ℕ} (s : PostingsPut l out at o₁ n₁ i) where
+    pub postings_more : {o₂ : List ℕ} {n₂ : ℕ} → i < length l → Puts o₁ n₁ (bytes_of (posting_form (get_or l i 0) ∷ [])) o₂ n₂ → PostingsPut l out at o₂ n₂ (i + 1)
+    postings_more h p = record {
+      within = omega arith;
+      put = rw (add-one i, take-suc l i 0 h, map-append posting_form (take i l) (get_or l i 0 ∷ []), bytes_append (map posting_form (take i l)) (posting_form (get_or l i 0) ∷ [])) (s.put then p);
+    }
 
 -- ---- terms: the first k are written
 
@@ -163,22 +138,11 @@ module _ {terms starts postings out : List ℕ} {at : ℕ} where
         let more : terms_forms I (k + 1) ≡ terms_forms I k ++ term_forms (get_or terms k 0) l = rw (e, add-one k, z) in
         record { within = omega arith; put = rw (more, bytes_append (terms_forms I k) (term_forms (get_or terms k 0) l)) (s.put then p) }
 
-    pub terms_put : length terms ≤ k → Puts out at (bytes_of (terms_forms (index terms starts postings) (length terms))) o₁ n₁
-    terms_put h = let z : k ≡ length terms = omega (arith, s.within) in rw z at s.put
-
 -- ---- the whole: its four parts stand one after another
 
-pub plant_put : (last level : List ℕ) (I : Index) {out o₁ o₂ o₃ o₄ : List ℕ} {n₁ n₂ n₃ n₄ : ℕ} → Writes out 0 word_plant o₁ n₁ →
-    Puts o₁ n₁ (bytes_of (stretch last level 0 (length last))) o₂ n₂ → Puts o₂ n₂ (bytes_of (terms_forms I (count I))) o₃ n₃ →
-    Puts o₃ n₃ (bytes_of (plain close_line ∷ [])) o₄ n₄ → Puts out 0 (text_of (plant last [] level) I) o₄ n₄
-plant_put last level I {n₁} p q t u =
+pub plant_put : (P : Plant) (I : Index) {out o₁ o₂ o₃ o₄ : List ℕ} {n₁ n₂ n₃ n₄ : ℕ} → Writes out 0 word_plant o₁ n₁ →
+    Puts o₁ n₁ (bytes_of (stretch P.last P.level 0 (size P))) o₂ n₂ → Puts o₂ n₂ (bytes_of (terms_forms I (count I))) o₃ n₃ →
+    Puts o₃ n₃ (bytes_of (plain close_line ∷ [])) o₄ n₄ → Puts out 0 (text_of P I) o₄ n₄
+plant_put P I {n₁} p q t u =
     let z : 0 + n₁ ≡ n₁ = omega arith in
-    rw (text_parts (plant last [] level) I, plant_bytes) ((rw z at (puts p)) then q then t then u)
-
--- it is refused, or put
-module _ {refused : ℕ} {out bytes : List ℕ} where
-  pub put_refused : (refused ≡ 0 → ⊥) → PutUnless refused out bytes out 0
-  put_refused h = record { put = λ e. absurd (h e); kept = λ _. refl }
-
-  pub put_taken : {out' : List ℕ} {n : ℕ} → refused ≡ 0 → Puts out 0 bytes out' n → PutUnless refused out bytes out' n
-  put_taken e p = record { put = λ _. p; kept = λ h. absurd (h e) }
+    rw (text_parts P I, plant_bytes) ((rw z at (puts p)) then q then t then u)

@@ -1,11 +1,12 @@
 -- How long a text is, and the loops that add it up.
-use Prim.Native.Nat.{ℕ, zero, suc, ◌+◌, ◌-◌, ◌*◌, ◌^◌, ◌≤◌, ◌<◌}
+use Prim.Native.Nat.{ℕ, zero, suc, ◌+◌, ◌-◌, ◌≤◌}
 use mathlib.Core.Path.{◌≡◌, refl, sym, ap, ◌∙◌}
 use mathlib.Core.Bool.{Bool, true, false, cond}
 use mathlib.Core.List.{List, [], ◌∷◌, ◌++◌, map}
 use native.Mathlib.Omega.{arith}
 use native.Mathlib.Numerals.{add-one}
 use lib.ListN.{length, get_or, take, length-append}
+use Rattle.std.proofs.lemmas.List.Sums.{sum_by-append, sum_by-cons}
 use lib.Seq.{slice, slice-cons, slice_empty, take-suc, take_all, take-length}
 use Rattle.laws.proofs.Cases.{by_order}
 use Rattle.laws.proofs.Lists.{slice_join}
@@ -16,7 +17,6 @@ use Rattle.index.specs.Index.{Index, count, tables_refusal}
 use Rattle.index.proofs.Accepted.{accepted}
 use Rattle.text.specs.Decimal.{numeral}
 use Rattle.text.specs.Forms.{plain, with_number}
-use Rattle.writing.proofs.Digits.{numeral_short}
 use Rattle.plant_text.specs.Form.{plant_line, device_line, term_line, own_line, all_line, close_line}
 use Rattle.written_text.specs.Forms.{posting_form, term_forms, terms_forms}
 use Rattle.written_text.specs.Text.{bytes_of, text_of}
@@ -29,8 +29,15 @@ use Rattle.plant_writer.proofs.Bytes.{word_dev, word_mark, word_own, word_all, w
 
 lines_append : (extra : ℕ) (key : ℕ → ℕ) (a b : List ℕ) → lines_length extra key (a ++ b) ≡ lines_length extra key a + lines_length extra key b
 unfolding lines_length
-lines_append extra key [] b = omega arith
-lines_append extra key (x ∷ a) b = let e = lines_append extra key a b in omega arith
+lines_append extra key a b = sum_by-append (λ x. extra + length (numeral (key x))) a b
+
+lines_more : (extra : ℕ) (key : ℕ → ℕ) (x : ℕ) (l : List ℕ) → lines_length extra key (x ∷ l) ≡ extra + length (numeral (key x)) + lines_length extra key l
+unfolding lines_length
+lines_more extra key x l = sum_by-cons (λ x. extra + length (numeral (key x))) x l
+
+lines_none : (extra : ℕ) (key : ℕ → ℕ) → lines_length extra key [] ≡ 0
+unfolding lines_length
+lines_none extra key = refl
 
 -- ---- the bytes
 
@@ -58,8 +65,7 @@ close_length = ap length close_bytes
 
 module _ (last level : List ℕ) where
   stretch_length : (k a e : ℕ) → Nested last a e → e ≤ length level → e ≤ a + k → length (bytes_of (stretch last level a e)) ≡ lines_length 8 (λ v. v) (slice a e level)
-  unfolding lines_length
-  stretch_length zero a e n u h = let z : a ≡ e = omega (arith, n.ordered) in rw (stretch_end last level a e (omega arith), z, slice_empty e level)
+  stretch_length zero a e n u h = let z : a ≡ e = omega (arith, n.ordered) in rw (stretch_end last level a e (omega arith), z, slice_empty e level, lines_none 8 (λ v. v))
   stretch_length (suc k) a e n u h =
       by_order a e
       (λ l.
@@ -73,16 +79,15 @@ module _ (last level : List ℕ) where
       let p = ap length (stretch_bytes last level a e n l) ∙ parts_length (bytes_of (with_number device_line (get_or level a 0) ∷ [])) (bytes_of (stretch last level (a + 1) m)) (bytes_of (plain close_line ∷ [])) (bytes_of (stretch last level m e)) in
       let d = device_length (get_or level a 0) in
       let c = close_length in
-      p ∙ rw (s, ← j) (omega arith))
-      (λ l. let z : a ≡ e = omega (arith, n.ordered) in rw (stretch_end last level a e l, z, slice_empty e level))
+      p ∙ rw (s, lines_more 8 (λ v. v), ← j) (omega arith))
+      (λ l. let z : a ≡ e = omega (arith, n.ordered) in rw (stretch_end last level a e l, z, slice_empty e level, lines_none 8 (λ v. v)))
 
 postings_length : (l : List ℕ) → length (bytes_of (map posting_form l)) ≡ lines_length 7 device l
-unfolding lines_length
-postings_length [] = rw bytes_none
+postings_length [] = rw (bytes_none, lines_none 7 device)
 postings_length (q ∷ l) =
     let n = posting_length q in
     let h = postings_length l in
-    ap length (bytes_more (posting_form q) (map posting_form l)) ∙ length-append (bytes_of (posting_form q ∷ [])) (bytes_of (map posting_form l)) ∙ omega arith
+    ap length (bytes_more (posting_form q) (map posting_form l)) ∙ length-append (bytes_of (posting_form q ∷ [])) (bytes_of (map posting_form l)) ∙ rw (lines_more 7 device q l) (omega arith)
 
 term_length : (t : ℕ) (l : List ℕ) → length (bytes_of (term_forms t l)) ≡ 9 + length (numeral t) + lines_length 7 device l
 term_length t l =
@@ -96,8 +101,8 @@ term_length t l =
 -- the lists of an accepted index lie one after another
 module _ (P : Plant) (I : Index) (h : tables_refusal P I ≡ 0) where
   terms_length : (n : ℕ) → n ≤ count I → length (bytes_of (terms_forms I n)) ≡ lines_length 9 (λ t. t) (take n I.terms) + lines_length 7 device (take (begin I n) I.postings)
-  unfolding terms_forms lines_length
-  terms_length zero u = rw (bytes_none, first_begin I (accepted_outline P I h))
+  unfolding terms_forms
+  terms_length zero u = rw (bytes_none, first_begin I (accepted_outline P I h), lines_none 9 (λ t. t), lines_none 7 device)
   terms_length (suc n) u =
       let o = ordered I (accepted_outline P I h) n (omega arith) in
       let z : suc n - 1 ≡ n = omega arith in
@@ -105,7 +110,8 @@ module _ (P : Plant) (I : Index) (h : tables_refusal P I ≡ 0) where
       let l = slice (begin I n) (begin I (suc n)) I.postings in
       let j : take (begin I n) I.postings ++ l ≡ take (begin I (suc n)) I.postings = slice_join I.postings 0 (begin I n) (begin I (suc n)) (omega arith) o.0 o.1 in
       let a = ap (lines_length 7 device) (sym j) ∙ lines_append 7 device (take (begin I n) I.postings) l in
-      let b = ap (lines_length 9 (λ t. t)) (take-suc I.terms n 0 (omega arith)) ∙ lines_append 9 (λ t. t) (take n I.terms) (t ∷ []) in
+      let b : lines_length 9 (λ t. t) (take (suc n) I.terms) ≡ lines_length 9 (λ t. t) (take n I.terms) + (9 + length (numeral t) + 0) =
+      ap (lines_length 9 (λ t. t)) (take-suc I.terms n 0 (omega arith)) ∙ lines_append 9 (λ t. t) (take n I.terms) (t ∷ []) ∙ rw (lines_more 9 (λ t. t) t [], lines_none 9 (λ t. t)) in
       let g = term_length t l in
       let f = terms_length n (omega arith) in
       let whole : length (bytes_of (terms_forms I (suc n))) ≡ length (bytes_of (terms_forms I n)) + length (bytes_of (term_forms t l)) =
@@ -128,33 +134,3 @@ module _ (P : Plant) (I : Index) (h : tables_refusal P I ≡ 0) where
       ap length (text_parts P I)
       ∙ parts_length (bytes_of (plain plant_line ∷ [])) (bytes_of (stretch P.last P.level 0 (size P))) (bytes_of (terms_forms I (count I))) (bytes_of (plain close_line ∷ []))
       ∙ omega (arith, rw x at a, rw (y, z) at b)
-
--- ---- the loops
-
--- the first i entries have been added up, each with a number of 32 bits
-pub record Summed (extra : ℕ) (key : ℕ → ℕ) (l : List ℕ) (n i : ℕ) : Type 0 where
-  pub within : i ≤ length l
-  pub known : n ≡ lines_length extra key (take i l)
-  pub few : n ≤ (extra + 10) * i
-
-pub digits_few : {d : ℕ} (x : ℕ) → d ≡ length (numeral x) → x < 10 ^ 10 → d ≤ 10
-digits_few x e h = let f = numeral_short 9 x h in omega arith
-
-module _ {extra : ℕ} {key : ℕ → ℕ} {l : List ℕ} where
-  pub summed_none : Summed extra key l 0 0
-  unfolding lines_length
-  summed_none = record { within = omega arith; known = refl; few = omega arith }
-
-  module _ {n i : ℕ} (s : Summed extra key l n i) where
-    pub summed_more : {d x : ℕ} → i < length l → x ≡ key (get_or l i 0) → x < 10 ^ 10 → d ≡ length (numeral x) → Summed extra key l (n + extra + d) (i + 1)
-    unfolding lines_length
-    summed_more {d} {x} h e b p =
-        let f = digits_few x p b in
-        record {
-          within = omega arith;
-          known = rw (add-one i, take-suc l i 0 h, lines_append extra key (take i l) (get_or l i 0 ∷ []), ← e, ← s.known, ← p) (omega arith);
-          few = omega (arith, s.few);
-        }
-
-    pub summed_end : length l ≤ i → (n ≡ lines_length extra key l) × (n ≤ (extra + 10) * length l)
-    summed_end h = let e : i ≡ length l = omega (arith, s.within) in (s.known ∙ rw (take_all i l h), rw e at s.few)

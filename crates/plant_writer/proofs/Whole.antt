@@ -4,26 +4,30 @@ use mathlib.Core.Path.{◌≡◌, refl, sym, ◌∙◌}
 use mathlib.Core.Bool.{Bool, true, false}
 use mathlib.Core.List.{List}
 use native.Mathlib.Omega.{arith}
-use lib.ListN.{length}
+use lib.ListN.{length, get_or}
 use Rattle.laws.specs.Limits.{most_devices}
 use Rattle.laws.specs.Rows.{pick}
 use Rattle.laws.proofs.Tests.{tests}
-use Rattle.laws.proofs.Rows.{otherwise_first, otherwise_next, pick_none}
+use Rattle.std.specs.Prelude.{Result, Ok, Err}
+use Rattle.refusal.specs.declared.Refusal.{Refusal}
+use Rattle.refusal.specs.Numbers.{number}
+use Rattle.refusal.proofs.Numbers.{number_not_zero, gives, first_refuses}
+use Rattle.laws.proofs.Rows.{otherwise_next}
 use Rattle.laws.proofs.Search.{any_found, any_none}
 use Rattle.plant.specs.Plant.{Plant, size}
 use Rattle.plant.proofs.Forest as forests
 use Rattle.index.specs.Index.{Index, count, tables_refusal, most_terms, most_postings}
 use Rattle.index.proofs.Accepted.{accepted}
+use Rattle.writing.specs.inner.Puts.{Puts}
 use Rattle.written_text.specs.Text.{text_of}
 use Rattle.written_text.specs.Refusals.{too_many_tiers, too_long, write_refusal}
 use Rattle.written_text.specs.inner.Nested.{Nested, deep as deep-at, Tiered}
+use Rattle.written_text.specs.RoundTrip.{RoundTrips}
+use Rattle.written_text.proofs.RoundTrip.{writes_back, round_trips}
 use Rattle.written_text.proofs.Stretches.{nested_all, depth_none}
 use Rattle.plant_writer.specs.inner.Deep.{Deep}
 use Rattle.plant_writer.specs.inner.Lengths.{whole_length}
-use Rattle.plant_writer.specs.inner.PutUnless.{PutUnless}
-use Rattle.plant_writer.specs.Write.{written_or, outcome_of, text_after, written_number, written_length, length_of}
-use Rattle.plant_writer.specs.declared.Written.{Written}
-use Rattle.plant_writer.specs.declared.Written.TheVariants as written
+use Rattle.plant_writer.specs.Write.{outcome_of, text_after, written_number, written_length, length_of}
 use Rattle.plant_writer.proofs.TextLength.{text_length}
 
 -- ---- what the check of tables gives
@@ -52,32 +56,32 @@ checked P I h =
 
 -- ---- the answers
 
-pub told_refused : (refused count : ℕ) → (refused ≡ 0 → ⊥) → written.Refused refused ≡ written_or refused count
-told_refused zero count h = absurd (h refl)
-told_refused (suc x) count h = refl
-
-pub told_made : (refused count : ℕ) → refused ≡ 0 → written.Made count ≡ written_or refused count
-told_made refused count e = rw e
-
 -- what the contract says of an outcome r and the buffer out' that is left
-pub record Leaves (P : Plant) (I : Index) (out : List ℕ) (r : Written) (out' : List ℕ) : Type 0 where
+pub record Leaves (P : Plant) (I : Index) (out : List ℕ) (r : Result ℕ Refusal) (out' : List ℕ) : Type 0 where
   pub outcome : r ≡ outcome_of P I (length out)
   pub text : out' ≡ text_after P I out
   pub number : written_number r ≡ write_refusal P I (length out)
   pub long : written_length r ≡ length_of P I (length out)
+  pub trips : RoundTrips P I (length out)
 
 module _ (P : Plant) (I : Index) (out : List ℕ) where
-  refuses : (x : ℕ) → write_refusal P I (length out) ≡ x → (x ≡ 0 → ⊥) → Leaves P I out (written.Refused x) out
-  refuses zero e h = absurd (h refl)
-  refuses (suc x) e h = record { outcome = rw e; text = rw e; number = sym e; long = rw e }
+  refuses : (e : Refusal) (x : ℕ) → write_refusal P I (length out) ≡ x → number e ≡ x → Leaves P I out (Err e) out
+  refuses e zero w h = absurd (number_not_zero e h)
+  refuses e (suc x) w h = record {
+    outcome = gives (write_refusal P I (length out)) (Err e) (h ∙ sym w) (λ z. absurd (number_not_zero e (h ∙ sym w ∙ z)));
+    text = rw w;
+    number = h ∙ sym w;
+    long = rw w;
+    trips = record { reads_back = λ z. absurd (number_not_zero e (h ∙ sym w ∙ z)); writes_back = writes_back P I (length out) };
+  }
 
   -- rows 1 to 9
-  pub refused_first : {x : ℕ} → x ≡ tables_refusal P I → (x ≡ 0 → ⊥) → Leaves P I out (written.Refused x) out
+  pub refused_first : (e : Refusal) → number e ≡ tables_refusal P I → Leaves P I out (Err e) out
   unfolding write_refusal
-  refused_first {x} e h = refuses x (otherwise_first (tables_refusal P I) _ (λ z. h (e ∙ z)) ∙ sym e) h
+  refused_first e h = refuses e (number e) (sym (first_refuses e _ h)) refl
 
-  -- past them: whether a device has too many tiers, and whether the text, of n bytes, is too long, are known
-  module _ (h : tables_refusal P I ≡ 0) {deep long : Bool} {n : ℕ} (D : Deep P.last 0 (size P) deep) (l : n ≡ length (text_of P I)) (f : long ≡ too_long (length out) n) where
+  -- past them: whether a device has too many tiers is known
+  module _ (h : tables_refusal P I ≡ 0) {deep : Bool} (D : Deep P.last 0 (size P) deep) where
     tiers_known : deep ≡ too_many_tiers P.last
     tiers_known = known deep D
       where
@@ -85,37 +89,28 @@ module _ (P : Plant) (I : Index) (out : List ℕ) where
         known true D = let x = D.found refl in any_found (deep-at P.last) x.0 (x.1, x.2) x.3
         known false D = any_none (deep-at P.last) (D.none refl)
 
-    late_is : {late : ℕ} → late ≡ pick deep 36 (pick long 40 0) → write_refusal P I (length out) ≡ late
+    late_is : write_refusal P I (length out) ≡ pick deep 36 (pick (too_long (length out) (length (text_of P I))) 40 0)
     unfolding write_refusal
-    late_is e = otherwise_next (tables_refusal P I) _ h ∙ rw (← tiers_known, ← l, ← f) (sym e)
+    late_is = otherwise_next (tables_refusal P I) _ h ∙ rw (← tiers_known)
 
-    -- a text that none of the rows refuses fits
-    fits : {late : ℕ} → late ≡ pick deep 36 (pick long 40 0) → late ≡ 0 → length (text_of P I) ≤ length out
-    fits e z =
-        let a = pick_none deep 35 (pick long 40 0) (sym e ∙ z) in
-        let b = pick_none long 39 0 a.1 in
-        let t = simp tests at (sym f ∙ b.0) in omega arith
+    pub refused_deep : deep ≡ true → Leaves P I out (Err Refusal.TooManyTiers) out
+    refused_deep e = refuses Refusal.TooManyTiers 36 (late_is ∙ rw e) refl
 
-    -- and its devices have no more than 32 tiers
-    pub late_tiered : {late : ℕ} → late ≡ pick deep 36 (pick long 40 0) → late ≡ 0 → Tiered P.last 0 (size P) 0
-    late_tiered e z =
-        let a = pick_none deep 35 (pick long 40 0) (sym e ∙ z) in
-        record { known = depth_none P.last (size P); few = omega arith; none = D.none a.0 }
+    module _ (e : deep ≡ false) where
+      -- no device has more than 32 tiers
+      pub tiered : Tiered P.last 0 (size P) 0
+      tiered = record { known = depth_none P.last (size P); few = omega arith; none = D.none e }
 
-    pub late_leaves : {late count : ℕ} {out' : List ℕ} → late ≡ pick deep 36 (pick long 40 0) → PutUnless late out (text_of P I) out' count → {r : Written} → r ≡ written_or late count → Leaves P I out r out'
-    late_leaves {late} {count} {out'} e p {r} q = rw q (go late refl)
-      where
-        go : (x : ℕ) → late ≡ x → Leaves P I out (written_or x count) out'
-        go zero z =
-            let w = late_is e ∙ z in
-            let s = p.put z in
-            let room : 0 + length (text_of P I) ≤ length out = let y = fits e z in omega arith in
+      -- and whether the text, of n bytes, is too long
+      module _ {long : Bool} {n : ℕ} (l : n ≡ length (text_of P I)) (f : long ≡ too_long (length out) n) where
+        pub refused_long : long ≡ true → Leaves P I out (Err Refusal.TextTooLong) out
+        refused_long t = refuses Refusal.TextTooLong 40 (late_is ∙ rw (e, ← l, ← f, t)) refl
+
+        pub made : {out' : List ℕ} {count : ℕ} → long ≡ false → ((i : ℕ) → get_or P.level i 0 ≤ 255) → Puts out 0 (text_of P I) out' count → Leaves P I out (Ok count) out'
+        made {count = count} t coded p =
+            let w : write_refusal P I (length out) ≡ 0 = late_is ∙ rw (e, ← l, ← f, t) in
+            let b = simp tests at (sym f ∙ t) in
+            let room : 0 + length (text_of P I) ≤ length out = omega arith in
             let y : 0 + length (text_of P I) ≡ length (text_of P I) = omega arith in
-            let m : count ≡ length (text_of P I) = s.moved room ∙ y in
-            record { outcome = rw (w, m); text = rw w (s.stored room ∙ rw y); number = sym w; long = rw (w, m) }
-        go (suc x) z = rw (p.kept (λ y. omega arith)) (refuses (suc x) (late_is e ∙ z) (λ y. omega arith))
-
--- the clauses of the contract, one by one
-pub promised : {P : Plant} {I : Index} {out out' : List ℕ} {r : Written} {T : Type 0} → Leaves P I out r out' → T →
-    (r ≡ outcome_of P I (length out)) × ((out' ≡ text_after P I out) × ((written_number r ≡ write_refusal P I (length out)) × ((written_length r ≡ length_of P I (length out)) × T)))
-promised l t = (l.outcome, (l.text, (l.number, (l.long, t))))
+            let m : count ≡ length (text_of P I) = p.moved room ∙ y in
+            record { outcome = rw (w, m); text = rw w (p.stored room ∙ rw y); number = sym w; long = rw (w, m); trips = round_trips P I (length out) coded }

@@ -1,21 +1,16 @@
 -- What the writer answers, and what it leaves in the lent buffer.
-use Rattle.std.specs.Prelude.{ℕ, zero, suc, List, ◌++◌, length, drop}
+use Rattle.std.specs.Prelude.{ℕ, zero, suc, List, ◌++◌, length, drop, Result, Ok, Err}
 use Rattle.laws.specs.Lent.{value_or}
 use Rattle.plant.specs.Plant.{Plant}
 use Rattle.index.specs.Index.{Index}
 use Rattle.written_text.specs.Text.{text_of}
 use Rattle.written_text.specs.Refusals.{write_refusal}
-use Rattle.plant_writer.specs.declared.Written.{Written}
-use Rattle.plant_writer.specs.declared.Written.TheVariants as written
+use Rattle.refusal.specs.declared.Refusal.{Refusal}
+use Rattle.refusal.specs.Numbers.{refused, given}
 
--- by the refusal: the length of the text, or the number
-abbrev pub written_or : ℕ → ℕ → Written
-written_or zero long = written.Made long
-written_or (suc n) long = written.Refused (suc n)
-
--- for a buffer of so many bytes
-abbrev pub outcome_of : Plant → Index → ℕ → Written
-outcome_of P I room = written_or (write_refusal P I room) (length (text_of P I))
+-- for a buffer of so many bytes: the length of the text, or the refusal
+abbrev pub outcome_of : Plant → Index → ℕ → Result ℕ Refusal
+outcome_of P I room = given (write_refusal P I room) (length (text_of P I))
 
 -- "Past the written length the lent text buffer keeps its contents; a refusal changes nothing in it."
 abbrev pub text_or : ℕ → List ℕ → List ℕ → List ℕ
@@ -26,13 +21,12 @@ abbrev pub text_after : Plant → Index → List ℕ → List ℕ
 text_after P I out = text_or (write_refusal P I (length out)) (text_of P I) out
 
 -- An outcome in document 02's numbers, case by case: its number, 0 or the refusal; and its value, the length written, 0 where it is refused.
-abbrev pub written_number : Written → ℕ
-written_number (written.Made long) = 0
-written_number (written.Refused n) = n
+abbrev pub written_number : Result ℕ Refusal → ℕ
+written_number r = refused r
 
-abbrev pub written_length : Written → ℕ
-written_length (written.Made long) = long
-written_length (written.Refused n) = 0
+abbrev pub written_length : Result ℕ Refusal → ℕ
+written_length (Ok long) = long
+written_length (Err e) = 0
 
 -- and the length that is written, by the refusal
 abbrev pub length_of : Plant → Index → ℕ → ℕ

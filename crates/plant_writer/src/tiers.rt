@@ -1,20 +1,10 @@
 // Whether a device has more than 32 tiers.
-ghost use Rattle.std.specs.Prelude.{◌≡◌, ◌≤◌, ◌<◌, length, get_or};
+ghost use Rattle.std.specs.Prelude.{◌≤◌};
 ghost use Rattle.written_text.specs.inner.Nested.{Nested, Depth};
 ghost use Rattle.plant_writer.specs.inner.Deep.{Deep};
 
-use integers::u16_to_usize;
-
-// The last device of the branch of device i + 1.
-pub fn end_of(last: &[u16], i: usize) -> usize
-    requires { i < length last.now }
-    ensures { result ≡ get_or last.now i 0 }
-{
-    u16_to_usize(last[i])
-}
-
 // Goes over devices a + 1 to e, which lie in `depth` branches, and over the devices inside each. A stretch has no more tiers than devices, so a short
-// one is passed over. A call is at most 33 deep.
+// one is passed over. A call is at most 33 deep, and goes from branch to branch.
 pub fn too_deep(last: &[u16], a: usize, e: usize, depth: usize) -> bool
     requires nested { Nested last.now a e }
     requires depth { Depth last.now a e depth }
@@ -29,7 +19,7 @@ pub fn too_deep(last: &[u16], a: usize, e: usize, depth: usize) -> bool
     }
     let mut i = a;
     while i < e {
-        let end = end_of(last, i);
+        let end = usize::from(last[i]);
         if too_deep(last, i + 1, end, depth + 1) {
             return true;
         }

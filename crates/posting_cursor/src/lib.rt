@@ -8,7 +8,7 @@ ghost use Rattle.posting_cursor.specs.Cursor.{stepped, forwarded};
 
 use index::{Step, first_at_least};
 
-#[derive(Clone, Copy)]
+#[derive(Clone, Copy, Debug, PartialEq, Eq)]
 pub struct PostingCursor<'a> {
     pub list: &'a [u32],
     pub position: usize,
@@ -26,9 +26,7 @@ pub fn new<'a>(list: &'a [u32]) -> PostingCursor<'a>
 pub fn seek<'a>(cursor: PostingCursor<'a>, device: u32) -> Step
     ensures { result ≡ stepped cursor.entry device }
 {
-    let list = cursor.list;
-    let from = cursor.position;
-    first_at_least(list, from, device)
+    first_at_least(cursor.list, cursor.position, device)
 }
 
 impl<'a> PostingCursor<'a> {
@@ -36,9 +34,7 @@ impl<'a> PostingCursor<'a> {
     pub fn seek(&mut self, device: u32) -> Step
         ensures { (self.new ≡ forwarded self.old device) × (result ≡ stepped self.old device) }
     {
-        let list = self.list;
-        let from = self.position;
-        let step = first_at_least(list, from, device);
+        let step = first_at_least(self.list, self.position, device);
         self.position = step.at;
         step
     }
@@ -48,8 +44,7 @@ impl<'a> PostingCursor<'a> {
 pub fn seek_from(list: &[u32], position: usize, device: u32) -> Step
     ensures { result ≡ step list.now position device }
 {
-    let cursor = PostingCursor { list, position };
-    seek(cursor, device)
+    seek(PostingCursor { list, position }, device)
 }
 
 // A cursor at the start, moved forward to two devices in turn, by the method: the second step.

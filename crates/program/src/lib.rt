@@ -2,70 +2,38 @@
 // written is named on standard error, with the reason.
 #![tactic(auto)]
 
-ghost use Rattle.std.specs.Prelude.{length};
-ghost use Rattle.program.specs.inner.Input.{Within};
+ghost use Rattle.std.specs.Prelude.{◌≤◌, length, IfOk};
 
 use std::io::{Read, Write};
 use std::rt::Files;
 use std::{fs, io};
-
-// What comes of reading an input: so many bytes, or it cannot be read.
-#[derive(Clone, Copy)]
-enum Input {
-    Bytes(usize),
-    Unreadable,
-}
 
 // Says why something failed. What cannot be said is lost.
 fn say<E: Write>(said: &mut E, what: &str, reason: io::Error) {
     let _ = writeln!(said, "{what}: {reason}");
 }
 
-// Reads the input of that name once, into the front of the buffer. No bytes: it has ended.
-fn read_some<I: Read, E: Write>(input: &mut I, name: &str, buffer: &mut [u8], said: &mut E) -> Input
-    ensures { Within (length buffer.old) result }
-{
-    match input.read(buffer) {
-        Ok(n) => Input::Bytes(n),
-        Err(reason) => {
-            say(said, name, reason);
-            Input::Unreadable
-        }
-    }
-}
-
-// Reads the input of that name to its end, or until the buffer is full.
-fn read_all<I: Read, E: Write>(input: &mut I, name: &str, buffer: &mut [u8], said: &mut E) -> Input
-    ensures { Within (length buffer.old) result }
+// Reads the input to its end, or until the buffer is full. Returns how many bytes.
+fn read_all<I: Read>(input: &mut I, buffer: &mut [u8]) -> io::Result<usize>
+    ensures { IfOk result (λ n. n ≤ length buffer.old) }
 {
     let mut done = 0;
     while done < buffer.len() {
-        match read_some(input, name, &mut buffer[done..], said) {
-            Input::Unreadable => {
-                return Input::Unreadable;
-            }
-            Input::Bytes(n) => {
-                if n == 0 {
-                    return Input::Bytes(done);
-                }
-                done += n;
-            }
+        let n = input.read(&mut buffer[done..])?;
+        if n == 0 {
+            break;
         }
+        done += n;
     }
-    Input::Bytes(done)
+    Ok(done)
 }
 
-// Reads the file to its end, or until the buffer is full.
-fn read_file<R: Files, E: Write>(rt: &R, name: &str, buffer: &mut [u8], said: &mut E) -> Input
-    ensures { Within (length buffer.old) result }
+// The same of a file.
+fn read_file<R: Files>(rt: &R, name: &str, buffer: &mut [u8]) -> io::Result<usize>
+    ensures { IfOk result (λ n. n ≤ length buffer.old) }
 {
-    match fs::open(rt, name) {
-        Ok(mut file) => read_all(&mut file, name, buffer, said),
-        Err(reason) => {
-            say(said, name, reason);
-            Input::Unreadable
-        }
-    }
+    let mut file = fs::open(rt, name)?;
+    read_all(&mut file, buffer)
 }
 
 // Writes the text to standard output. It may be written in part before a write fails.
@@ -75,7 +43,9 @@ fn print<R: Print, E: Write>(rt: &R, text: &[u8], said: &mut E) {
     }
 }
 
-fn refuse_file<R: Print, E: Write>(rt: &R, said: &mut E) {
+// Says why the input of that name cannot be read, and prints that it is refused.
+fn refuse_file<R: Print, E: Write>(rt: &R, name: &str, reason: io::Error, said: &mut E) {
+    say(said, name, reason);
     print(rt, b"(refused file)\n", said);
 }
 
@@ -91,14 +61,12 @@ fn answer<R: Print, E: Write>(rt: &R, plant: &[u8], query: &[u8], said: &mut E) 
 // limit of its text. The query is read first: where standard input is closed, the file would be opened in its place.
 pub fn run<R: Files + Print, I: Read, E: Write>(rt: &R, input: &mut I, name: &str, said: &mut E) {
     let mut query = [0u8; 4097];
-    let Input::Bytes(q) = read_all(input, "ask", &mut query, said) else {
-        refuse_file(rt, said);
-        return;
-    };
     let mut plant = [0u8; 65537];
-    let Input::Bytes(p) = read_file(rt, name, &mut plant, said) else {
-        refuse_file(rt, said);
-        return;
-    };
-    answer(rt, &plant[..p], &query[..q], said);
+    match read_all(input, &mut query) {
+        Err(reason) => refuse_file(rt, "ask", reason, said),
+        Ok(q) => match read_file(rt, name, &mut plant) {
+            Err(reason) => refuse_file(rt, name, reason, said),
+            Ok(p) => answer(rt, &plant[..p], &query[..q], said),
+        },
+    }
 }

@@ -11,11 +11,11 @@ mod refusals;
 mod terms;
 
 pub use codes::wants;
-pub use refusals::{common_refusal, refusal};
+pub use refusals::{check, check_common};
 pub use terms::{Terms, terms_of};
 
 // Which level codes a query wants: any, true levels only, or a range of them (document 01: its window). A code of 0 or 255 is no true level.
-#[derive(Clone, Copy)]
+#[derive(Debug, Clone, Copy, PartialEq, Eq)]
 pub enum Levels {
     Any,
     TrueOnly,
@@ -23,7 +23,7 @@ pub enum Levels {
 }
 
 // A query (document 01: an ask).
-#[derive(Clone, Copy)]
+#[derive(Debug, Clone, Copy, PartialEq, Eq)]
 pub struct Query {
     pub required: Terms,
     pub forbidden: Terms,
@@ -48,11 +48,9 @@ impl Query {
     pub fn empty() -> Query
         ensures { result ≡ empty }
     {
-        let required = none();
-        let forbidden = none();
         Query {
-            required,
-            forbidden,
+            required: none(),
+            forbidden: none(),
             levels: Levels::TrueOnly,
             start: 1,
             budget: Query::LARGEST_BUDGET,
@@ -63,9 +61,7 @@ impl Query {
     pub fn with_required(mut self, term: u32) -> Query
         ensures { result ≡ with_required self term }
     {
-        let terms = self.required;
-        let more = with_term(terms, term);
-        self.required = more;
+        self.required = with_term(self.required, term);
         self
     }
 
@@ -73,24 +69,15 @@ impl Query {
     pub fn with_forbidden(mut self, term: u32) -> Query
         ensures { result ≡ with_forbidden self term }
     {
-        let terms = self.forbidden;
-        let more = with_term(terms, term);
-        self.forbidden = more;
+        self.forbidden = with_term(self.forbidden, term);
         self
     }
 
-    pub fn with_levels(self, levels: Levels) -> Query
+    pub fn with_levels(mut self, levels: Levels) -> Query
         ensures { result ≡ with_levels self levels }
     {
-        let required = self.required;
-        let forbidden = self.forbidden;
-        Query {
-            required,
-            forbidden,
-            levels,
-            start: self.start,
-            budget: self.budget,
-        }
+        self.levels = levels;
+        self
     }
 
     pub fn with_start(mut self, start: u32) -> Query

@@ -1,45 +1,28 @@
 // The refusals of a query: small tables, one after another, as the definition has them. Each can be asked of any query.
 ghost use Rattle.std.specs.Prelude.{◌≡◌};
+ghost use Rattle.refusal.specs.Numbers.{refused};
 ghost use Rattle.query.specs.Query.{used};
 ghost use Rattle.query.specs.Refusals.{no_terms, no_range, count_rows, term_rows, level_rows, start_rows, room_rows, common_refusal, query_refusal};
-ghost use Rattle.query.specs.declared.Levels.{Levels};
 
 use crate::codes::true_level;
 use crate::{Levels, Query, Terms};
-use integers::{least, otherwise};
+use refusal::Refusal;
 
 // Whether a term of a list is none.
 fn no_terms(terms: &[u32]) -> bool
     ensures { result ≡ no_terms terms.now }
 {
-    let mut k = 0;
-    while k < terms.len() {
-        k += 1;
-        let term = terms[k - 1];
-        if term == 0 || Query::HIGHEST_TERM < term {
-            return true;
-        }
-    }
-    false
+    terms
+        .iter()
+        .any(|&term| term == 0 || Query::HIGHEST_TERM < term)
 }
 
 // Whether a used term is none.
 fn any_no_term(terms: Terms) -> bool
     ensures { result ≡ no_terms (used terms) }
 {
-    let places = terms.places;
-    let count = least(terms.count, Query::MOST_TERMS);
-    no_terms(&places[..count])
-}
-
-// Whether low..high is no range of true levels.
-fn wrong_bounds(low: u32, high: u32) -> bool
-    ensures { result ≡ no_range (Levels.Range low high) }
-{
-    if high < low || !true_level(low) {
-        return true;
-    }
-    !true_level(high)
+    let count = terms.count.min(Query::MOST_TERMS);
+    no_terms(&terms.places[..count])
 }
 
 // Whether a query has a range, and it is none of true levels.
@@ -47,79 +30,72 @@ fn no_range(levels: Levels) -> bool
     ensures { result ≡ no_range levels }
 {
     match levels {
-        Levels::Any => false,
-        Levels::TrueOnly => false,
-        Levels::Range(low, high) => wrong_bounds(low, high),
+        Levels::Any | Levels::TrueOnly => false,
+        Levels::Range(low, high) => high < low || !true_level(low) || !true_level(high),
     }
 }
 
-fn count_rows(required: usize, forbidden: usize) -> u32
-    ensures { result ≡ count_rows required forbidden }
+fn check_counts(required: usize, forbidden: usize) -> Result<(), Refusal>
+    ensures { refused result ≡ count_rows required forbidden }
 {
     if Query::MOST_TERMS < required || Query::MOST_TERMS < forbidden {
-        return 10;
+        return Err(Refusal::TooManyTerms);
     }
-    0
+    Ok(())
 }
 
-fn term_rows(required: Terms, forbidden: Terms) -> u32
-    ensures { result ≡ term_rows (used required) (used forbidden) }
+fn check_terms(required: Terms, forbidden: Terms) -> Result<(), Refusal>
+    ensures { refused result ≡ term_rows (used required) (used forbidden) }
 {
-    if any_no_term(required) {
-        return 11;
+    if any_no_term(required) || any_no_term(forbidden) {
+        return Err(Refusal::NoTerm);
     }
-    if any_no_term(forbidden) {
-        return 11;
-    }
-    0
+    Ok(())
 }
 
-fn level_rows(levels: Levels) -> u32
-    ensures { result ≡ level_rows levels }
+fn check_levels(levels: Levels) -> Result<(), Refusal>
+    ensures { refused result ≡ level_rows levels }
 {
     if no_range(levels) {
-        return 12;
+        return Err(Refusal::NoLevelRange);
     }
-    0
+    Ok(())
 }
 
-fn start_rows(devices: usize, start: u32) -> u32
-    ensures { result ≡ start_rows devices start }
+fn check_start(devices: usize, start: u32) -> Result<(), Refusal>
+    ensures { refused result ≡ start_rows devices start }
 {
     if start == 0 || devices < (start - 1) as usize {
-        return 13;
+        return Err(Refusal::NoStart);
     }
-    0
+    Ok(())
 }
 
-fn room_rows(devices: usize, room: usize) -> u32
-    ensures { result ≡ room_rows devices room }
+fn check_room(devices: usize, room: usize) -> Result<(), Refusal>
+    ensures { refused result ≡ room_rows devices room }
 {
     if room < devices {
-        return 14;
+        return Err(Refusal::ListingTooShort);
     }
-    0
+    Ok(())
 }
 
-// The lowest of the refusals 10 to 13 that applies to a query over a plant of `devices` devices, or 0: those that do not hang on where its
-// answer goes.
-pub fn common_refusal(query: Query, devices: usize) -> u32
-    ensures { result ≡ common_refusal devices query }
+// The refusal with the lowest number, of 10 to 13, that applies to a query over a plant of `devices` devices: of those that do not hang on where
+// its answer goes.
+pub fn check_common(query: Query, devices: usize) -> Result<(), Refusal>
+    ensures { refused result ≡ common_refusal devices query }
 {
-    let required = query.required;
-    let forbidden = query.forbidden;
-    let levels = query.levels;
-    let counts = count_rows(required.count, forbidden.count);
-    let terms = term_rows(required, forbidden);
-    let range = level_rows(levels);
-    let start = start_rows(devices, query.start);
-    otherwise(counts, otherwise(terms, otherwise(range, start)))
+    check_counts(query.required.count, query.forbidden.count)?;
+    check_terms(query.required, query.forbidden)?;
+    check_levels(query.levels)?;
+    check_start(devices, query.start)
 }
 
-// The lowest of the refusals 10 to 14 that applies to a search for a query over a plant of `devices` devices, with room for `room` in the
-// answer list, or 0.
-pub fn refusal(query: Query, devices: usize, room: usize) -> u32
-    ensures { result ≡ query_refusal devices room query }
+// The refusal with the lowest number, of 10 to 14, that applies to a search for a query over a plant of `devices` devices, with room for `room`
+// in the answer list.
+pub fn check(query: Query, devices: usize, room: usize) -> Result<(), Refusal>
+    ensures { refused result ≡ query_refusal devices room query }
 {
-    otherwise(common_refusal(query, devices), room_rows(devices, room))
+    check_common(query, devices)?;
+    check_room(devices, room)
 }

@@ -10,8 +10,7 @@ use Rattle.text.specs.Forms.{form}
 use Rattle.text.specs.Reading.{read_lines}
 use Rattle.query.specs.Query.{empty, with_required, with_forbidden, with_levels}
 use Rattle.query.specs.declared.Levels.{Levels}
-use Rattle.query_text.specs.QueryText.{line_refusal, read_query}
-use Rattle.query_text.specs.declared.QueryRead.{QueryRead}
+use Rattle.query_text.specs.QueryText.{QueryRead, line_refusal, read_query}
 
 -- the ask of need 7, not 9 with these level lines
 abbrev pub ask : List (List ℕ) → List ℕ

@@ -4,7 +4,7 @@ use mathlib.Core.Path.{◌≡◌, refl, sym, ◌∙◌}
 use mathlib.Core.Bool.{Bool, true, false}
 use lib.Dec.{eqb}
 use native.Mathlib.Omega.{arith}
-use borrow.Author.Tests.{eq-eqb, ne_eqb, eqb-false}
+use borrow.Author.Tests.{eqb-false}
 use Rattle.laws.specs.Limits.{largest_number}
 use Rattle.laws.specs.Rows.{pick}
 use Rattle.laws.proofs.Rows.{pick_none}
@@ -15,7 +15,7 @@ use Rattle.text.specs.inner.Finding.{capped_form}
 use Rattle.text.specs.Decimal.{up_to}
 use Rattle.text.specs.Reading.{refused, unless}
 use Rattle.text.specs.declared.Form.{Form}
-use Rattle.query_text.specs.QueryText.{closed_stage, closed, out_of_order, over, ninth, line_refusal, with_line, step}
+use Rattle.query_text.specs.QueryText.{closed, out_of_order, over, ninth, line_refusal, with_line, step}
 use Rattle.query_text.specs.declared.Draft.{Draft}
 
 -- a line that no row refuses is finished, and has no number over the limit
@@ -37,34 +37,6 @@ module _ (d : Draft) (f : Form) (h : line_refusal d f ≡ 0) where
 
   pub accepted_line : over f ≡ false
   accepted_line = (pick_none (over f) 31 (pick (ninth d.query f.kind) 35 0) (pick_none misplaced 30 last_rows past_unfinished.1).1).0
-
--- the rows, by what the tests give
-module _ (d : Draft) (f : Form) {m o n : Bool} (is_m : m ≡ out_of_order d.stage f.kind) (is-o : o ≡ over f) (is-n : n ≡ ninth d.query f.kind) where
-  by_tests : line_refusal d f ≡ pick (closed d) 34 (pick (eqb f.kind unfinished) 33 (pick m 31 (pick o 32 (pick n 35 0))))
-  unfolding line_refusal
-  by_tests = rw (is_m, is-o, is-n)
-
-  pub row_34 : d.stage ≡ closed_stage → 34 ≡ line_refusal d f
-  row_34 h = rw (by_tests, eq-eqb d.stage closed_stage h)
-
-  module _ (h : d.stage ≡ closed_stage → ⊥) where
-    pub row_33 : f.kind ≡ unfinished → 33 ≡ line_refusal d f
-    row_33 p = rw (by_tests, ne_eqb d.stage closed_stage h, eq-eqb f.kind unfinished p)
-
-    module _ (p : f.kind ≡ unfinished → ⊥) where
-      pub row_31 : m ≡ true → 31 ≡ line_refusal d f
-      row_31 q = rw (by_tests, ne_eqb d.stage closed_stage h, ne_eqb f.kind unfinished p, q)
-
-      module _ (q : m ≡ false) where
-        pub row_32 : o ≡ true → 32 ≡ line_refusal d f
-        row_32 r = rw (by_tests, ne_eqb d.stage closed_stage h, ne_eqb f.kind unfinished p, q, r)
-
-        module _ (r : o ≡ false) where
-          pub row_35 : n ≡ true → 35 ≡ line_refusal d f
-          row_35 s = rw (by_tests, ne_eqb d.stage closed_stage h, ne_eqb f.kind unfinished p, q, r, s)
-
-          pub no_row : n ≡ false → 0 ≡ line_refusal d f
-          no_row s = rw (by_tests, ne_eqb d.stage closed_stage h, ne_eqb f.kind unfinished p, q, r, s)
 
 -- the numbers of a line that is not over the limit
 pub smalls : (f : Form) → over f ≡ false → (f.before ≤ largest_number) × (f.number ≤ largest_number)

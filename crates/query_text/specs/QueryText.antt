@@ -1,16 +1,17 @@
 -- Query text (document 01: ask text), read line by line.
-use Rattle.std.specs.Prelude.{ℕ, ◌+◌, Bool, cond, ◌&&◌, ◌||◌, List, leb, ltb, eqb, length}
+use Rattle.std.specs.Prelude.{ℕ, ◌+◌, Bool, cond, ◌&&◌, ◌||◌, List, leb, ltb, eqb, length, Result, Ok, Err}
 use Rattle.laws.specs.Limits.{largest_number}
 use Rattle.laws.specs.Rows.{pick}
 use Rattle.text.specs.Forms.{unfinished}
 use Rattle.text.specs.Reading.{Step, Read, made, no, unless, reading_forms}
 use Rattle.text.specs.declared.Form.{Form}
+use Rattle.text.specs.declared.Refused.{Refused}
+use Rattle.refusal.specs.Numbers.{number}
 use Rattle.query.specs.Query.{most_named, empty, with_required, with_forbidden, with_levels, with_start, with_budget}
 use Rattle.query.specs.declared.Query.{Query}
 use Rattle.query.specs.declared.Levels.{Levels}
 use Rattle.query_text.specs.Form.{open_line, required_line, forbidden_line, level_line, any_level_line, start_line, budget_line, close_line, rows, repeats}
 use Rattle.query_text.specs.declared.Draft.{Draft}
-use Rattle.query_text.specs.declared.QueryRead.{QueryRead}
 
 -- The order of lines: the stage is the lowest kind that the next line may be of. The kinds of no form and of an unfinished line are below every
 -- stage.
@@ -74,10 +75,21 @@ with_line d f = record { stage = next_stage f.kind; query = with_form d.query f 
 abbrev pub step : Draft → Form → Step Draft
 step d f = unless (line_refusal d f) (with_line d f)
 
+-- what a text comes to in numbers: the refusal and its line, or 0 and 0, and the query
+pub record QueryRead : Type 0 where
+  pub refusal : ℕ
+  pub line : ℕ
+  pub query : Query
+
 -- "A refusal gives number and line and an empty ask."
 abbrev pub told : Read Draft → QueryRead
 told (made d) = record { refusal = 0; line = 0; query = d.query }
 told (no n k) = record { refusal = n; line = k; query = empty }
+
+-- and as the code tells it
+abbrev pub told_of : Result Query Refused → QueryRead
+told_of (Ok q) = record { refusal = 0; line = 0; query = q }
+told_of (Err e) = record { refusal = number e.refusal; line = e.line; query = empty }
 
 -- 30: "over 4,096 bytes (line 0)"
 abbrev pub longest_text : ℕ

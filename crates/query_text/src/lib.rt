@@ -4,12 +4,13 @@
 ghost use Rattle.std.specs.Prelude.{◌≡◌, false, ◌&&◌, eqb};
 ghost use Rattle.laws.specs.Limits.{largest_number};
 ghost use Rattle.text.specs.inner.Finding.{found_at};
-ghost use Rattle.text.specs.Reading.{made, no};
-ghost use Rattle.query_text.specs.Form.{rows, repeats};
-ghost use Rattle.query_text.specs.QueryText.{begun, closed, next_stage, out_of_order, over, ninth, line_refusal, with_form, with_line, told, read_query};
+ghost use Rattle.refusal.specs.Numbers.{refused};
+ghost use Rattle.query_text.specs.Form.{rows};
+ghost use Rattle.query_text.specs.QueryText.{closed, next_stage, out_of_order, over, ninth, line_refusal, with_form, with_line, told_of, read_query};
 
 use query::{Levels, Query};
-use text::{Form, Found};
+use refusal::Refusal;
+use text::{Form, Found, Refused};
 
 // The largest number of a line. A larger one is read as one above it.
 const LARGEST_NUMBER: u32 = 4_294_967_295;
@@ -17,6 +18,7 @@ const LARGEST_NUMBER: u32 = 4_294_967_295;
 const LONGEST_TEXT: usize = 4_096;
 
 // The kinds of line, in the order in which they stand. An unfinished one is below them all.
+// Kept: numbers, since `text::row` takes them and the reader of plant text misses its bar with enums; a kind is compared with the stage.
 const UNFINISHED: u32 = 0;
 
 const OPEN: u32 = 2;
@@ -40,14 +42,6 @@ const FIRST_STAGE: u64 = OPEN as u64;
 
 const CLOSED: u64 = CLOSE as u64 + 1;
 
-// What a text comes to: the refusal, its line and the empty query, or 0, 0 and the query.
-#[derive(Clone, Copy)]
-pub struct QueryRead {
-    pub refusal: u32,
-    pub line: u32,
-    pub query: Query,
-}
-
 // What the lines so far make: the lowest kind that the next line may be of, and the query. A stage is wider than a kind, so that each kind has
 // one after it.
 #[derive(Clone, Copy)]
@@ -57,61 +51,30 @@ struct Draft {
 }
 
 // The query that a text writes, or why and at which line it is refused.
-pub fn read(text: &[u8]) -> QueryRead
-    ensures { result ≡ read_query text.now }
+pub fn read(text: &[u8]) -> Result<Query, Refused>
+    ensures { told_of result ≡ read_query text.now }
 {
     if LONGEST_TEXT < text.len() {
-        return refused(30, 0);
+        return Err(Refused {
+            line: 0,
+            refusal: Refusal::QueryTooLong,
+        });
     }
-    let mut draft = begun();
+    let mut draft = Draft {
+        stage: FIRST_STAGE,
+        query: Query::empty(),
+    };
     let mut at = 0;
-    let mut line: u32 = 1;
-    loop {
-        if is_finished(draft, text.len() - at) {
-            return accepted(draft);
-        }
-        let found = line_at(text, at);
-        let form = found.form;
-        let refusal = line_refusal(draft, form);
-        if refusal != 0 {
-            return refused(refusal, line);
-        }
+    let mut line = 1;
+    // It goes from line to line, and these are of any length.
+    while !is_finished(draft, text.len() - at) {
+        let Found { form, next } = line_at(text, at);
+        check_line(draft, form).map_err(|refusal| Refused { line, refusal })?;
         draft = with_line(draft, form);
-        at = found.next;
+        at = next;
         line += 1;
     }
-}
-
-fn refused(refusal: u32, line: u32) -> QueryRead
-    ensures { result ≡ told (no refusal line) }
-{
-    let query = Query::empty();
-    QueryRead {
-        refusal: refusal,
-        line: line,
-        query: query,
-    }
-}
-
-fn accepted(draft: Draft) -> QueryRead
-    ensures { result ≡ told (made draft) }
-{
-    let query = draft.query;
-    QueryRead {
-        refusal: 0,
-        line: 0,
-        query: query,
-    }
-}
-
-fn begun() -> Draft
-    ensures { result ≡ begun }
-{
-    let query = Query::empty();
-    Draft {
-        stage: FIRST_STAGE,
-        query: query,
-    }
+    Ok(draft.query)
 }
 
 // Whether the text is at its end and the query is closed.
@@ -137,65 +100,44 @@ fn line_at(text: &[u8], at: usize) -> Found
     text::line_at(text, at, form)
 }
 
-// The refusal of a line, or 0: the first row that applies.
-fn line_refusal(draft: Draft, form: Form) -> u32
-    ensures { result ≡ line_refusal draft form }
+// Whether a line is refused, by the first row that applies.
+#[tactic(auto, unfolding(crate::specs::QueryText::line_refusal))]
+fn check_line(draft: Draft, form: Form) -> Result<(), Refusal>
+    ensures { refused result ≡ line_refusal draft form }
 {
-    let query = draft.query;
-    let kind = form.kind;
-    let misplaced = is_out_of_order(draft.stage, kind);
-    let over = is_over(form);
-    let ninth = is_ninth(query, kind);
-    if draft.stage == CLOSED {
-        return 34;
+    match form.kind {
+        _ if draft.stage == CLOSED => Err(Refusal::BytesAfterQuery),
+        UNFINISHED => Err(Refusal::UnfinishedQuery),
+        kind if is_out_of_order(draft.stage, kind) => Err(Refusal::QueryForm),
+        _ if is_over(form) => Err(Refusal::NumberTooLarge),
+        kind if is_ninth(draft.query, kind) => Err(Refusal::NinthTerm),
+        _ => Ok(()),
     }
-    if kind == UNFINISHED {
-        return 33;
-    }
-    if misplaced {
-        return 31;
-    }
-    if over {
-        return 32;
-    }
-    if ninth {
-        return 35;
-    }
-    0
 }
 
-// Whether a line of a kind may stand more than once.
-fn repeats(kind: u32) -> bool
-    ensures { result ≡ repeats kind }
-{
-    kind == REQUIRED || kind == FORBIDDEN
-}
-
-// The lowest kind that the line after a line may be of. No level line follows either of the two.
+// The lowest kind that the line after a line may be of: its own, where it may stand more than once. No level line follows either of the two.
 fn next_stage(kind: u32) -> u64
     ensures { result ≡ next_stage kind }
 {
-    if repeats(kind) {
-        return kind as u64;
+    match kind {
+        REQUIRED | FORBIDDEN => u64::from(kind),
+        LEVEL => u64::from(START),
+        _ => u64::from(kind) + 1,
     }
-    if kind == LEVEL {
-        return START as u64;
-    }
-    kind as u64 + 1
 }
 
 // Whether a line of a kind may not stand at a stage: its kind is too low, or it is first and does not open the query.
 fn is_out_of_order(stage: u64, kind: u32) -> bool
     ensures { result ≡ out_of_order stage kind }
 {
-    (kind as u64) < stage || (stage == FIRST_STAGE && OPEN < kind)
+    u64::from(kind) < stage || (stage == FIRST_STAGE && OPEN < kind)
 }
 
 // Whether a number of a line is over the limit.
 fn is_over(form: Form) -> bool
     ensures { result ≡ over form }
 {
-    let limit = LARGEST_NUMBER as u64;
+    let limit = u64::from(LARGEST_NUMBER);
     limit < form.before || limit < form.number
 }
 
@@ -203,10 +145,11 @@ fn is_over(form: Form) -> bool
 fn is_ninth(query: Query, kind: u32) -> bool
     ensures { result ≡ ninth query kind }
 {
-    if kind == REQUIRED {
-        return Query::MOST_TERMS <= query.required.count;
+    match kind {
+        REQUIRED => Query::MOST_TERMS <= query.required.count,
+        FORBIDDEN => Query::MOST_TERMS <= query.forbidden.count,
+        _ => false,
     }
-    kind == FORBIDDEN && Query::MOST_TERMS <= query.forbidden.count
 }
 
 // What the lines make with one line more.
@@ -214,11 +157,9 @@ fn with_line(draft: Draft, form: Form) -> Draft
     requires { line_refusal draft form ≡ 0 }
     ensures { result ≡ with_line draft form }
 {
-    let before = draft.query;
-    let query = with_form(before, form);
     Draft {
         stage: next_stage(form.kind),
-        query: query,
+        query: with_form(draft.query, form),
     }
 }
 
@@ -227,26 +168,15 @@ fn with_form(query: Query, form: Form) -> Query
     requires { over form ≡ false }
     ensures { result ≡ with_form query form }
 {
-    let kind = form.kind;
+    let before = form.before as u32;
     let number = form.number as u32;
-    if kind == REQUIRED {
-        return query.with_required(number);
+    match form.kind {
+        REQUIRED => query.with_required(number),
+        FORBIDDEN => query.with_forbidden(number),
+        LEVEL => query.with_levels(Levels::Range(before, number)),
+        ANY_LEVEL => query.with_levels(Levels::Any),
+        START => query.with_start(number),
+        BUDGET => query.with_budget(number),
+        _ => query,
     }
-    if kind == FORBIDDEN {
-        return query.with_forbidden(number);
-    }
-    if kind == LEVEL {
-        let low = form.before as u32;
-        return query.with_levels(Levels::Range(low, number));
-    }
-    if kind == ANY_LEVEL {
-        return query.with_levels(Levels::Any);
-    }
-    if kind == START {
-        return query.with_start(number);
-    }
-    if kind == BUDGET {
-        return query.with_budget(number);
-    }
-    query
 }

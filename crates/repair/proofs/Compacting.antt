@@ -14,7 +14,7 @@ use Rattle.laws.specs.Joined.{joined}
 use Rattle.laws.proofs.Cases.{by_order, either}
 use Rattle.laws.proofs.Lists.{getD_slice, take_written, same_from, same_later}
 use Rattle.index.specs.Postings.{device, reach}
-use Rattle.index.specs.inner.Lists.{Held}
+use Rattle.plant.specs.inner.Forest.{Forest}
 use Rattle.repair.specs.Kept.{kept, dropped}
 use Rattle.repair.specs.Repair.{reported}
 use Rattle.repair.specs.inner.Lists.{Fit}
@@ -61,7 +61,7 @@ kept_and_dropped : (last l : List ℕ) → length (kept last l) + length (droppe
 kept_and_dropped last l = interleaved_length (kept_interleaved last l)
 
 -- a longer part has no fewer that are dropped
-module _ (last l : List ℕ) (H : Held last) (F : Fit (length last) l) where
+module _ (last l : List ℕ) (H : Forest last) (F : Fit (length last) l) where
   passed_at : (k : ℕ) → k ≤ length l → (r : ℕ) × Passed last l k r
   passed_at zero u = (0, passed_start last l)
   passed_at (suc k) u =
@@ -88,7 +88,7 @@ module _ (last l : List ℕ) (H : Held last) (F : Fit (length last) l) where
 
 -- its postings up to index i are gone through, and what they reach is known
 pub record Course (last p₀ r₀ : List ℕ) (base end term to at : ℕ) (p r : List ℕ) (f : Filled) (reached i : ℕ) : Type 0 where
-  pub held : Held last
+  pub forest : Forest last
   pub fit : Fit (length last) (slice base end p₀)
   pub ordered : (to ≤ base) × (base ≤ end) × (end ≤ length p₀)
   pub room : at + 3 * length (dropped last (slice base end p₀)) ≤ length r₀
@@ -97,14 +97,14 @@ pub record Course (last p₀ r₀ : List ℕ) (base end term to at : ℕ) (p r :
   pub passed : Passed last (slice base end p₀) (i - base) reached
   pub done : Compacting last p₀ r₀ base end term to at i p r f
 
-pub course_start : {last p r : List ℕ} {base end term : ℕ} {f : Filled} → Held last → (f.postings ≤ base) × (base ≤ end) × (end ≤ length p)
+pub course_start : {last p r : List ℕ} {base end term : ℕ} {f : Filled} → Forest last → (f.postings ≤ base) × (base ≤ end) × (end ≤ length p)
     → Fit (length last) (slice base end p) → f.report + 3 * length (dropped last (slice base end p)) ≤ length r
     → Course last p r base end term f.postings f.report p r f 0 base
 unfolding joined reported
 course_start {last} {p} {r} {base} {end} {term} {f} H o F room =
     let z : base - base ≡ 0 = omega arith in
     record {
-      held = H;
+      forest = H;
       fit = F;
       ordered = o;
       room = room;
@@ -130,9 +130,6 @@ module _ {last p₀ r₀ : List ℕ} {base end term to at : ℕ} {p r : List ℕ
 
   abbrev ks : List ℕ
   ks = kept last (take (i - base) l)
-
-  pub course_end : end ≤ i → Compacting last p₀ r₀ base end term to at end p r f
-  course_end u = let e : i ≡ end = omega (arith, c.high) in rw e at c.done
 
   module _ (more : i < end) where
     abbrev q : ℕ
@@ -167,7 +164,7 @@ module _ {last p₀ r₀ : List ℕ} {base end term to at : ℕ} {p r : List ℕ
     course_place = omega (arith, place_low, course_within)
 
     first_device : 1 ≤ device q
-    first_device = rw here (passed_device c.held c.passed inside F)
+    first_device = rw here (passed_device c.forest c.passed inside F)
 
     pub course_device : IsEntry last (device q)
     course_device =
@@ -191,13 +188,13 @@ module _ {last p₀ r₀ : List ℕ} {base end term to at : ℕ} {p r : List ℕ
         × (dropped last (take (i - base + 1) l) ≡ dropped last (take (i - base) l) ++ (goes (entry ks (length ks)) q ∷ []))
     covered_next e =
         let v : device (get_or l (i - base) 0) ≤ reached = rw here at (reaches e) in
-        rw here (passed_covered c.held c.passed inside F (passed_device c.held c.passed inside F) v)
+        rw here (passed_covered c.forest c.passed inside F (passed_device c.forest c.passed inside F) v)
 
     pub course_room : ltb reached (device q) ≡ false → f.report + 3 ≤ length r
     course_room e =
         let a = ap length (covered_next e).1 ∙ length-append (dropped last (take (i - base) l)) (goes (entry ks (length ks)) q ∷ []) in
         let z : i - base + 1 + (length l - (i - base + 1)) ≡ length l = omega (arith, inside) in
-        let b = rw (z, take-length l) at (dropped_longer last l c.held c.fit (i - base + 1) (length l - (i - base + 1)) (omega (arith, inside))) in
+        let b = rw (z, take-length l) at (dropped_longer last l c.forest c.fit (i - base + 1) (length l - (i - base + 1)) (omega (arith, inside))) in
         omega (arith, c.room, c.done.line_is, c.done.report_size)
 
     -- the posting kept last
@@ -224,7 +221,7 @@ module _ {last p₀ r₀ : List ℕ} {base end term to at : ℕ} {p r : List ℕ
       fresh_next : (kept last (take (i + 1 - base) l) ≡ ks ++ (q ∷ [])) × (dropped last (take (i + 1 - base) l) ≡ dropped last (take (i - base) l))
       fresh_next =
           let v : reached < device (get_or l (i - base) 0) = rw here at (ltb-true reached (device q) e) in
-          rw (next_number, here) (passed_fresh c.held c.passed inside F v)
+          rw (next_number, here) (passed_fresh c.forest c.passed inside F v)
 
       fresh_done : Compacting last p₀ r₀ base end term to at (i + 1) (set p f.postings q) r (record { postings = f.postings + 1; report = f.report })
       fresh_done = record {
@@ -269,13 +266,13 @@ module _ {last p₀ r₀ : List ℕ} {base end term to at : ℕ} {p r : List ℕ
     pub course_turn : {p' r' : List ℕ} {f' : Filled} {reached' : ℕ} → Put p r f (ltb reached (device q)) term q p' r' f' → reached' ≡ max reached (reach last q)
         → Course last p₀ r₀ base end term to at p' r' f' reached' (i + 1)
     course_turn {p'} {r'} {f'} {reached'} h g = record {
-      held = c.held;
+      forest = c.forest;
       fit = c.fit;
       ordered = c.ordered;
       room = c.room;
       low = omega (arith, c.low);
       high = omega arith;
-      passed = rw next_number (passed_turn c.held c.passed inside F (rw here at g));
+      passed = rw next_number (passed_turn c.forest c.passed inside F (rw here at g));
       done = either (ltb reached (device q))
           (λ e.
           let a : p' ≡ set p f.postings q = rw e at h.postings_are in

@@ -5,7 +5,6 @@ mod Furthest
 mod OneMore
 mod Passing
 mod Counting
-mod Putting
 mod Compacting
 mod Lists
 pub mod Theorems

@@ -12,7 +12,7 @@ use Rattle.laws.proofs.Lists.{same_later}
 use Rattle.laws.proofs.Joined.{joined_next, joined_longer}
 use Rattle.plant.specs.Plant.{plant}
 use Rattle.index.specs.Index.{Index, count, list}
-use Rattle.index.proofs.Laying.{Laying, lay_start, lay_few, lay_starts, lay_bounds, lay_list, lay_turn}
+use Rattle.index.proofs.Laying.{Laying, lay_start, lay_bounds, lay_list, lay_turn}
 use Rattle.repair.specs.Kept.{dropped}
 use Rattle.repair.specs.Repair.{kept_in, dropped_in, reported, report_in}
 use Rattle.repair.specs.inner.Lists.{astray_in, Fit, Repairable}
@@ -48,15 +48,6 @@ round_start {last} {I} R = let h = lay_start I (kept_in (plant last [] []) I) R.
 
 module _ {last : List ℕ} {I : Index} {r₀ starts p r : List ℕ} {f : Filled} {start k : ℕ} (R : Repairable last I)
     (room : 3 * length (dropped_of last I (count I)) ≤ length r₀) (t : Round last I r₀ starts p r f start k) where
-  pub round_end : count I ≤ k → Compacted last I r₀ (count I) starts p r f
-  round_end u = let e : k ≡ count I = omega (arith, t.lists.within) in rw e at t.done
-
-  pub round_few : f.postings ≤ 1_048_576
-  round_few = lay_few R.outline (kept_shorter last I) t.lists
-
-  pub round_starts : k < count I → k < length starts
-  round_starts = lay_starts R.outline (kept_shorter last I) t.lists
-
   module _ {end : ℕ} (u : k < count I) (e : end ≡ get_or starts (k + 1) (length p)) where
     pub round_bounds : (f.postings ≤ start) × (start ≤ end) × (end ≤ length p)
     round_bounds = lay_bounds R.outline (kept_shorter last I) t.lists u e

@@ -14,7 +14,7 @@ use Rattle.laws.proofs.Tests.{tests, or_no}
 use Rattle.laws.proofs.Cases.{by_order}
 use Rattle.laws.proofs.Search.{None}
 use Rattle.index.specs.Postings.{device, reach, outside}
-use Rattle.index.specs.inner.Lists.{Held}
+use Rattle.plant.specs.inner.Forest.{Forest}
 use Rattle.repair.specs.Kept.{kept, dropped}
 use Rattle.repair.specs.Refusals.{falls}
 use Rattle.repair.specs.inner.Lists.{astray, Fit, furthest}
@@ -75,7 +75,7 @@ pub passed_start : (last l : List ℕ) → Passed last l 0 0
 unfolding furthest
 passed_start last l = record { within = omega arith; reached_is = refl; some = λ u. absurd (omega arith) }
 
-module _ {last l : List ℕ} {k reached : ℕ} (H : Held last) (h : Passed last l k reached) (u : k < length l) (F : Fit (length last) (take (k + 1) l)) where
+module _ {last l : List ℕ} {k reached : ℕ} (H : Forest last) (h : Passed last l k reached) (u : k < length l) (F : Fit (length last) (take (k + 1) l)) where
   abbrev q : ℕ
   q = get_or l k 0
 

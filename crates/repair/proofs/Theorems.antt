@@ -22,7 +22,7 @@ use Rattle.index.specs.inner.Lists.{SoundList}
 use Rattle.index.specs.inner.Outlined.{Outlined}
 use Rattle.index.proofs.Lists.{ranged, rises}
 use Rattle.index.proofs.Outline.{outlined, outline_passed}
-use Rattle.index.proofs.Accepted.{Accepted, accepted, accepts, accepted_outline, accepted_list, branches_held}
+use Rattle.index.proofs.Accepted.{Accepted, accepted, accepts, accepted_outline, accepted_list}
 use Rattle.index.proofs.Begins.{all_lists, laid_own}
 use Rattle.index.proofs.Laid.{laid_list, laid_outline, laid_same, laid_list_of}
 use Rattle.repair.specs.Repair.{kept_in, dropped_in, repaired, all_dropped, reported, report_in, report_of}
@@ -65,7 +65,7 @@ unrefused P I room h =
     let r44 = pick_past (too_short P I room) 44 _ (omega arith) r41.1 in
     record {
       tables = a.0;
-      lists = record { held = branches_held P a.0; outline = o.0; ordered = astray_rows P.last I o.0 ∙ rw (r8.0, r41.0) };
+      lists = record { outline = o.0; ordered = astray_rows P.last I o.0 ∙ rw (r8.0, r41.0) };
       long = r44.0;
     }
 

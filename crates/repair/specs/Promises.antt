@@ -1,13 +1,14 @@
 -- What is promised of a repair.
-use Rattle.std.specs.Prelude.{ℕ, ◌≡◌, List, [], ◌∷◌, length}
+use Rattle.std.specs.Prelude.{ℕ, ◌≡◌, Result, Ok, List, [], ◌∷◌, length}
+use Rattle.refusal.specs.declared.Refusal.{Refusal}
+use Rattle.refusal.specs.Numbers.{refused}
 use Rattle.plant.specs.Plant.{Plant}
 use Rattle.index.specs.Unshared.{unshared, member}
 use Rattle.index.specs.Index.{Index, list_of, tables_refusal}
 use Rattle.repair.specs.Repair.{repaired, all_dropped}
 use Rattle.repair.specs.Refusals.{repair_refusal}
-use Rattle.repair.specs.Outcome.{outcome_of, starts_after, postings_after, report_after, repaired_number, repaired_values, values_of}
+use Rattle.repair.specs.Outcome.{outcome_of, starts_after, postings_after, report_after, repaired_values, values_of}
 use Rattle.repair.specs.declared.Repaired.{Repaired}
-use Rattle.repair.specs.declared.Repaired.TheVariants as variants
 
 -- the third list is the first two together: each of its entries is the next of the one or of the other
 pub data Interleaved : List ℕ → List ℕ → List ℕ → Type 0 where
@@ -26,7 +27,7 @@ pub record Repairs (P : Plant) (I : Index) : Type 0 where
 
 -- "a clean store comes back unchanged with nothing reported"
 pub record Unchanged (P : Plant) (I : Index) (lent : List ℕ) : Type 0 where
-  pub outcome : outcome_of P I (length lent) ≡ variants.Made 0 (length I.postings)
+  pub outcome : outcome_of P I (length lent) ≡ Ok (record { dropped = 0; left = length I.postings })
   pub starts : starts_after P I (length lent) ≡ I.starts
   pub postings : postings_after P I (length lent) ≡ I.postings
   pub report : report_after P I lent ≡ lent
@@ -37,9 +38,9 @@ pub record Promised (P : Plant) (I : Index) (lent : List ℕ) : Type 0 where
   pub clean : tables_refusal P I ≡ 0 → Unchanged P I lent
 
 -- the outcome r, and every entry of what was lent: starts and postings, which were those of I, and the report
-pub record RepairGives (P : Plant) (I : Index) (lent starts' postings' report' : List ℕ) (r : Repaired) : Type 0 where
+pub record RepairGives (P : Plant) (I : Index) (lent starts' postings' report' : List ℕ) (r : Result Repaired Refusal) : Type 0 where
   pub outcome : r ≡ outcome_of P I (length lent)
-  pub number : repaired_number r ≡ repair_refusal P I (length lent)
+  pub number : refused r ≡ repair_refusal P I (length lent)
   pub values : repaired_values r ≡ values_of P I (length lent)
   pub starts : starts' ≡ starts_after P I (length lent)
   pub postings : postings' ≡ postings_after P I (length lent)

@@ -2,17 +2,16 @@
 ghost use Rattle.std.specs.Prelude.{◌≡◌, false, ◌+◌, ◌*◌, ◌≤◌, ◌<◌, length};
 ghost use Rattle.std.proofs.Math.Seq.{slice};
 ghost use Rattle.index.specs.Index.{index};
-ghost use Rattle.index.specs.inner.Lists.{Held};
 ghost use Rattle.repair.specs.Kept.{dropped};
 ghost use Rattle.repair.specs.inner.Lists.{Fit, Repairable};
 ghost use Rattle.repair.specs.inner.Compaction.{dropped_of, stays, goes, told, Put, Compacting, Compacted};
 
 use crate::count::further;
-use index::start_at;
-use integers::{u16_to_u32, u32_to_usize};
+use index::{device_of, start_at};
+use plant::Branches;
 
 // The index after the postings that are kept, and the one after what is reported.
-#[derive(Clone, Copy)]
+#[derive(Clone, Copy, Debug, PartialEq, Eq)]
 pub struct Filled {
     pub postings: usize,
     pub report: usize,
@@ -20,41 +19,22 @@ pub struct Filled {
 
 // Of the posting kept last and the next one, which some posting before it reaches: the one that stays, and the one that goes. The next stays where
 // the last is private and of its device. Private postings of a device are alike, so it does not matter which of them goes.
-fn staying(held: u32, posting: u32) -> u32
-    ensures { result ≡ stays held posting }
+fn parted(held: u32, posting: u32) -> (u32, u32)
+    ensures stays { result.0 ≡ stays held posting }
+    ensures goes { result.1 ≡ goes held posting }
 {
     if held == posting / 2 * 2 {
-        posting
+        (posting, held)
     } else {
-        held
+        (held, posting)
     }
-}
-
-fn going(held: u32, posting: u32) -> u32
-    ensures { result ≡ goes held posting }
-{
-    if held == posting / 2 * 2 {
-        held
-    } else {
-        posting
-    }
-}
-
-// The three entries of a posting in the report.
-fn tell(report: &mut [u32], at: usize, term: u32, posting: u32)
-    requires { at + 3 ≤ length report.old }
-    ensures { report.new ≡ told report.old at term posting }
-{
-    report[at] = term;
-    report[at + 1] = posting / 2;
-    report[at + 2] = posting % 2;
 }
 
 // Puts a posting after those kept, where it is fresh: none before it reaches its device. Else it or the one kept last goes to the report.
 fn put(
     postings: &mut [u32],
     report: &mut [u32],
-    filled: Filled,
+    mut filled: Filled,
     fresh: bool,
     term: u32,
     posting: u32,
@@ -68,23 +48,22 @@ fn put(
     let line = filled.report;
     if fresh {
         postings[place] = posting;
-        return Filled {
-            postings: place + 1,
-            report: line,
-        };
+        filled.postings += 1;
+    } else {
+        let (stays, goes) = parted(postings[place - 1], posting);
+        postings[place - 1] = stays;
+        // Three writes: `copy_from_slice` of the three takes more instructions.
+        report[line] = term;
+        report[line + 1] = goes / 2;
+        report[line + 2] = goes % 2;
+        filled.report += 3;
     }
-    let held = postings[place - 1];
-    postings[place - 1] = staying(held, posting);
-    tell(report, line, term, going(held, posting));
-    Filled {
-        postings: place,
-        report: line + 3,
-    }
+    filled
 }
 
 // Compacts the list from `start` up to `end`.
 fn compact_list(
-    last: &[u16],
+    branches: Branches,
     term: u32,
     start: usize,
     end: usize,
@@ -92,44 +71,34 @@ fn compact_list(
     postings: &mut [u32],
     report: &mut [u32],
 ) -> Filled
-    requires held { Held last.now }
     requires in_order { (from.postings ≤ start) × (start ≤ end) × (end ≤ length postings.old) }
-    requires fit { Fit (length last.now) (slice start end postings.old) }
-    requires report_in_bounds { from.report + 3 * length (dropped last.now (slice start end postings.old)) ≤ length report.old }
-    ensures { Compacting last.now postings.old report.old start end term
+    requires fit { Fit (length branches.last.now) (slice start end postings.old) }
+    requires report_in_bounds { from.report + 3 * length (dropped branches.last.now (slice start end postings.old)) ≤ length report.old }
+    ensures { Compacting branches.entry.last.now postings.old report.old start end term
         from.postings from.report end postings.new report.new result }
 {
     let mut filled = from;
     let mut reached = 0;
-    let mut i = start;
-    while i < end {
+    for i in start..end {
         let posting = postings[i];
-        let fresh = reached < u32_to_usize(posting / 2);
+        let fresh = reached < device_of(posting);
         filled = put(postings, report, filled, fresh, term, posting);
-        reached = further(last, reached, posting);
-        i += 1;
+        reached = further(branches, reached, posting);
     }
     filled
 }
 
-fn narrow(x: usize) -> u32
-    requires { x ≤ 1_048_576 }
-    ensures { result ≡ x }
-{
-    x as u32
-}
-
 // Compacts all lists, one after another, and writes where each starts.
 pub fn compact(
-    last: &[u16],
+    branches: Branches,
     terms: &[u16],
     starts: &mut [u32],
     postings: &mut [u32],
     report: &mut [u32],
 ) -> Filled
-    requires repairable { Repairable last.now (index terms.now starts.old postings.old) }
-    requires report_in_bounds { 3 * length (dropped_of last.now (index terms.now starts.old postings.old) (length terms.now)) ≤ length report.old }
-    ensures { Compacted last.now (index terms.now starts.old postings.old)
+    requires repairable { Repairable branches.last.now (index terms.now starts.old postings.old) }
+    requires report_in_bounds { 3 * length (dropped_of branches.last.now (index terms.now starts.old postings.old) (length terms.now)) ≤ length report.old }
+    ensures { Compacted branches.entry.last.now (index terms.now starts.old postings.old)
         report.old (length terms.now) starts.new postings.new report.new result }
 {
     let mut filled = Filled {
@@ -137,15 +106,19 @@ pub fn compact(
         report: 0,
     };
     let mut start = 0;
-    let mut k = 0;
-    while k < terms.len() {
+    for (k, &term) in terms.iter().enumerate() {
         let end = start_at(starts, k + 1, postings.len());
-        let to = filled.postings;
-        starts[k] = narrow(to);
-        let term = u16_to_u32(terms[k]);
-        filled = compact_list(last, term, start, end, filled, postings, report);
+        starts[k] = filled.postings as u32;
+        filled = compact_list(
+            branches,
+            u32::from(term),
+            start,
+            end,
+            filled,
+            postings,
+            report,
+        );
         start = end;
-        k += 1;
     }
     filled
 }

@@ -5,7 +5,7 @@ use mathlib.Core.List.{List, [], ◌∷◌, ◌++◌, append_assoc, append-nil}
 use native.Mathlib.Omega.{arith}
 use native.Mathlib.Numerals.{add-one}
 use lib.ListN.{length, take, get_or, length-append}
-use lib.Seq.{take-suc, take_all}
+use lib.Seq.{take-suc}
 use Rattle.writing.specs.Writing.{Writes}
 use Rattle.writing.specs.inner.Puts.{Puts}
 use Rattle.writing.proofs.Digits.{numeral_short}
@@ -55,9 +55,6 @@ module _ {l : List ℕ} {at : ℕ} {listing : List ℕ} where
       within = omega arith;
       put = rw (add-one, take-suc listing i 0, device_lines_append, device_line) (p.put then q);
     }
-
-    pub devices_put : length listing ≤ i → Puts l at (device_lines listing) l' next
-    devices_put h = rw (take_all i listing h) at p.put
 
 -- the parts of an answer, one after another, and how long it is with numbers of ten digits
 module _ (listing : List ℕ) (position passed moves : ℕ) where

@@ -9,7 +9,11 @@ use Rattle.plant.specs.Plant.{Plant}
 use Rattle.index.specs.Index.{Index}
 use Rattle.steps.specs.Steps.{End}
 use Rattle.query.specs.declared.Query.{Query}
-use Rattle.search.specs.Answer.{answer_of, written}
+use Rattle.std.specs.Prelude.{Ok, Err}
+use Rattle.refusal.specs.declared.Refusal.{Refusal}
+use Rattle.refusal.specs.Numbers.{number}
+use Rattle.refusal.proofs.Numbers.{number_not_zero}
+use Rattle.search.specs.Answer.{told, answer_of, written}
 use Rattle.search.specs.declared.Answer.{Answer}
 use Rattle.text.specs.Reading.{made, no}
 use Rattle.plant_text.specs.PlantText as plant_texts
@@ -17,29 +21,34 @@ use Rattle.plant_text.specs.PlantText.{State}
 use Rattle.query_text.specs.QueryText as query_texts
 use Rattle.respond.specs.Lines.{word_plant, word_ask, word_query, numbered, numbered₂, answer_text}
 use Rattle.respond.specs.inner.Prints.{Prints}
-use Rattle.respond.specs.Respond.{program_room, of_run, of_search, of_query, of_query_text, respond, Responds}
+use Rattle.respond.specs.Respond.{program_room, of_run, of_query, of_query_text, respond, Responds}
 
 -- the search refuses the query, or lists
-pub run_refused : (a : Answer) (n : ℕ) (e : End) → a ≡ answer_of n e → (a.refusal ≡ 0 → ⊥) → numbered word_query a.refusal ≡ of_run n e
-run_refused a zero e t h = absurd (h (ap (λ x. x.refusal) t))
-run_refused a (suc n) e t h = rw t
+pub run_refused : (r : Refusal) (n : ℕ) (e : End) → told (Err r) ≡ answer_of n e → numbered word_query (number r) ≡ of_run n e
+run_refused r zero e t = absurd (number_not_zero r (ap (λ x. x.refusal) t))
+run_refused r (suc n) e t = let z : number r ≡ suc n = ap (λ x. x.refusal) t in rw z
 
-pub run_listed : (a : Answer) (n : ℕ) (e : End) (out out' : List ℕ) → a ≡ answer_of n e → out' ≡ written n e out → a.refusal ≡ 0 →
-    answer_text (take a.count out') a.position a.passed a.moves ≡ of_run n e
-run_listed a zero e out out' t w h = rw (t, w, take-append_seam)
-run_listed a (suc n) e out out' t w h = absurd (omega (arith, ap (λ x. x.refusal) t))
+module _ (a : Answer) where
+  pub run_listed : (n : ℕ) (e : End) (out out' : List ℕ) → told (Ok a) ≡ answer_of n e → out' ≡ written n e out →
+      answer_text (take a.count out') a.position a.passed a.moves ≡ of_run n e
+  run_listed zero e out out' t w =
+      let c : a.count ≡ length e.listed = ap (λ x. x.count) t in
+      let p : a.position ≡ e.position = ap (λ x. x.position) t in
+      let q : a.passed ≡ e.counts.passed = ap (λ x. x.passed) t in
+      let m : a.moves ≡ e.counts.moves = ap (λ x. x.moves) t in
+      rw (c, p, q, m, w, take-append_seam)
+  run_listed (suc n) e out out' t w = absurd (omega (arith, ap (λ x. x.refusal) t))
 
-pub run_count : (a : Answer) (n : ℕ) (e : End) (out out' : List ℕ) → a ≡ answer_of n e → out' ≡ written n e out → a.count ≤ length out'
-run_count a zero e out out' t w = rw (t, w, length-append) (omega arith)
-run_count a (suc n) e out out' t w = rw t (omega arith)
+  pub run_count : (n : ℕ) (e : End) (out out' : List ℕ) → told (Ok a) ≡ answer_of n e → out' ≡ written n e out → a.count ≤ length out'
+  run_count zero e out out' t w =
+      let c : a.count ≡ length e.listed = ap (λ x. x.count) t in
+      rw (w, length-append) (omega arith)
+  run_count (suc n) e out out' t w = absurd (omega (arith, ap (λ x. x.refusal) t))
 
 -- the query text is refused, or read
 pub query_refused : (P : Plant) (I : Index) (n line : ℕ) (q : Query) → (n ≡ 0 → ⊥) → numbered₂ word_ask n line ≡ of_query P I n line q
 query_refused P I zero line q h = absurd (h refl)
 query_refused P I (suc n) line q h = refl
-
-pub query_read : (P : Plant) (I : Index) (n line : ℕ) (q : Query) → n ≡ 0 → of_search P I q ≡ of_query P I n line q
-query_read P I n line q h = rw h
 
 -- the plant text is refused, or read
 module _ (text query : List ℕ) where

@@ -9,10 +9,10 @@ use Rattle.plant.specs.Plant.{plant}
 use Rattle.plant.proofs.Forest as plants
 use Rattle.index.specs.Index.{index}
 use Rattle.index.proofs.Accepted as indexes
+use Rattle.std.specs.Prelude.{Ok}
 use Rattle.text.specs.Reading.{made}
 use Rattle.plant_text.specs.declared.Room.{Room}
-use Rattle.plant_text.specs.declared.Outcome.TheVariants as outcome
-use Rattle.plant_text.specs.PlantText.{State, read_plant, outcome_of, kept}
+use Rattle.plant_text.specs.PlantText.{State, read_plant, counts, outcome_of, kept}
 use Rattle.accepted_text.proofs.Accepted.{Within, passes}
 use Rattle.accepted_text.proofs.Made.{is_made, cut, fits}
 use Rattle.respond.specs.Respond.{program_room}
@@ -35,7 +35,7 @@ pub record Tables (r : Room) (text : List ℕ) (d t p : ℕ) (last root level te
   pub in_postings : p ≤ length postings
 
 pub tables : (r : Room) → Within r → (text : List ℕ) (d t p a b c e f g : ℕ) (last root level terms starts postings : List ℕ) →
-    outcome.Made d t p ≡ outcome_of (read_plant r text) →
+    Ok (counts d t p) ≡ outcome_of (read_plant r text) →
     plant last root level ≡ (let m = kept (read_plant r text) in plant (filled a m.plant.last) (filled b m.plant.root) (filled c m.plant.level)) →
     index terms starts postings ≡ (let m = kept (read_plant r text) in index (filled e m.index.terms) (filled f m.index.starts) (filled g m.index.postings)) →
     Tables r text d t p last root level terms starts postings

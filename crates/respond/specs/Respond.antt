@@ -11,7 +11,7 @@ use Rattle.plant_text.specs.PlantText as plant_texts
 use Rattle.plant_text.specs.PlantText.{State}
 use Rattle.plant_text.specs.declared.Room.{Room}
 use Rattle.query_text.specs.QueryText as query_texts
-use Rattle.query_text.specs.declared.QueryRead.{QueryRead}
+use Rattle.query_text.specs.QueryText.{QueryRead}
 use Rattle.respond.specs.Limits.{device_room, term_room, posting_room}
 use Rattle.respond.specs.Lines.{word_plant, word_ask, word_query, numbered, numbered₂, answer_text}
 

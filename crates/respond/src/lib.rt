@@ -3,14 +3,17 @@
 
 mod write;
 
-ghost use Rattle.plant.specs.Plant.{plant};
-ghost use Rattle.index.specs.Index.{index};
+ghost use Rattle.plant.specs.Tables.{plant_of};
+ghost use Rattle.index.specs.Tables.{index_of};
 ghost use Rattle.query_text.specs.QueryText as query_texts;
 ghost use Rattle.respond.specs.inner.Prints.{Prints};
 ghost use Rattle.respond.specs.Respond.{of_search, of_query_text, Responds};
 
-use plant_text::Outcome;
+use index::IndexTables;
+use plant::DeviceTables;
 use query::Query;
+use text::Refused;
+use two_indexes::TwoIndexes;
 use write::{put_answer, put_numbered, put_numbered_twice};
 
 // Writes the answer to a query text over a plant text, or why one of them is refused, at the front of the buffer. Returns how many bytes.
@@ -32,83 +35,58 @@ pub fn respond(plant: &[u8], query: &[u8], out: &mut [u8; 16384]) -> usize
         &mut starts,
         &mut postings,
     ) {
-        Outcome::Refused(n, line) => put_numbered_twice(out, 0, b"(refused plant ", n, line),
-        Outcome::Made(d, t, p) => respond_query(
-            &last[..d],
-            &root[..d],
-            &level[..d],
-            &terms[..t],
-            &starts[..t],
-            &postings[..p],
-            query,
-            out,
-        ),
+        Err(Refused { refusal, line }) => {
+            put_numbered_twice(out, 0, b"(refused plant ", refusal.number(), line)
+        }
+        Ok(counts) => {
+            let plant = DeviceTables {
+                last: &last[..counts.devices],
+                root: &root[..counts.devices],
+                level: &level[..counts.devices],
+            };
+            let index = IndexTables {
+                terms: &terms[..counts.terms],
+                starts: &starts[..counts.terms],
+                postings: &postings[..counts.postings],
+            };
+            respond_query(plant, index, query, out)
+        }
     }
 }
 
 // The answer to a query text over tables that a plant text made.
-fn respond_query(
-    last: &[u16],
-    root: &[u16],
-    level: &[u8],
-    terms: &[u16],
-    starts: &[u32],
-    postings: &[u32],
-    query: &[u8],
-    out: &mut [u8],
-) -> usize
+fn respond_query(plant: DeviceTables, index: IndexTables, query: &[u8], out: &mut [u8]) -> usize
     ensures { Prints out.old
-        (of_query_text
-        (plant last.now root.now level.now)
-        (index terms.now starts.now postings.now)
-        (query_texts.read_query query.now))
+        (of_query_text (plant_of plant.entry) (index_of index.entry) (query_texts.read_query query.now))
         out.new result }
 {
-    let asked = query_text::read(query);
-    let refusal = asked.refusal;
-    if refusal != 0 {
-        return put_numbered_twice(out, 0, b"(refused ask ", refusal, asked.line);
+    match query_text::read(query) {
+        Err(Refused { refusal, line }) => {
+            put_numbered_twice(out, 0, b"(refused ask ", refusal.number(), line)
+        }
+        Ok(query) => respond_search(plant, index, query, out),
     }
-    let q = asked.query;
-    respond_search(last, root, level, terms, starts, postings, q, out)
 }
 
 // The answer to a query over tables and their one index: the second is handed in empty.
-fn respond_search(
-    last: &[u16],
-    root: &[u16],
-    level: &[u8],
-    terms: &[u16],
-    starts: &[u32],
-    postings: &[u32],
-    query: Query,
-    out: &mut [u8],
-) -> usize
-    ensures { Prints out.old
-        (of_search
-        (plant last.now root.now level.now)
-        (index terms.now starts.now postings.now)
-        query)
-        out.new result }
+fn respond_search(plant: DeviceTables, index: IndexTables, query: Query, out: &mut [u8]) -> usize
+    ensures { Prints out.old (of_search (plant_of plant.entry) (index_of index.entry) query) out.new result }
 {
     let mut listing = [0u16; 1024];
-    let a = search::search(
-        last,
-        root,
-        level,
-        terms,
-        starts,
-        postings,
-        &terms[0..0],
-        &starts[0..0],
-        &postings[0..0],
-        query,
-        &mut listing,
-    );
-    let refusal = a.refusal;
-    if refusal != 0 {
-        return put_numbered(out, 0, b"(refused query ", refusal);
+    let none = IndexTables {
+        terms: &[],
+        starts: &[],
+        postings: &[],
+    };
+    let indexes = TwoIndexes {
+        first: index,
+        second: none,
+    };
+    match search::search(plant, indexes, query, &mut listing) {
+        Err(refusal) => put_numbered(out, 0, b"(refused query ", refusal.number()),
+        Ok(a) => {
+            let listed = &listing[..a.count as usize];
+            put_answer(out, listed, a.position, a.passed, a.moves)
+        }
     }
-    let n = a.count as usize;
-    put_answer(out, &listing[..n], a.position, a.passed, a.moves)
 }

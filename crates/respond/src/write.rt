@@ -1,34 +1,29 @@
 // Lines and the whole of an answer, written into the output buffer. Each function returns where the next byte goes.
-ghost use Rattle.std.specs.Prelude.{◌≤◌, length};
+ghost use Rattle.std.specs.Prelude.{◌+◌, ◌≤◌, length};
 ghost use Rattle.writing.specs.inner.Puts.{Puts};
 ghost use Rattle.respond.specs.inner.Prints.{answer_bytes};
-ghost use Rattle.respond.specs.Lines.{word_device, numbered, «numbered₂», device_lines, answer_text};
+ghost use Rattle.respond.specs.Lines.{numbered, «numbered₂», device_lines, answer_text};
 
 use writing::{put_number, put_word};
 
 // A line of a word, a number and a closing bracket.
 pub fn put_numbered(out: &mut [u8], at: usize, word: &[u8], n: u32) -> usize
-    ensures { Puts out.old at (numbered word.now n) out.new result }
+    ensures puts { Puts out.old at (numbered word.now n) out.new result }
+    ensures few { length (numbered word.now n) ≤ length word.now + 12 }
 {
     let first = at + put_word(out, at, word);
-    let next = first + put_number(out, first, n as u64);
+    let next = first + put_number(out, first, u64::from(n));
     next + put_word(out, next, b")\n")
 }
 
 // A line of a word, two numbers and a closing bracket.
 pub fn put_numbered_twice(out: &mut [u8], at: usize, word: &[u8], n: u32, m: u32) -> usize
-    ensures { Puts out.old at («numbered₂» word.now n m) out.new result }
+    ensures puts { Puts out.old at («numbered₂» word.now n m) out.new result }
+    ensures few { length («numbered₂» word.now n m) ≤ length word.now + 23 }
 {
     let first = at + put_word(out, at, word);
-    let next = first + put_number(out, first, n as u64);
+    let next = first + put_number(out, first, u64::from(n));
     put_numbered(out, next, b" ", m)
-}
-
-// The line of a device.
-fn put_device(out: &mut [u8], at: usize, d: u16) -> usize
-    ensures { Puts out.old at (numbered word_device d) out.new result }
-{
-    put_numbered(out, at, b"(device ", d as u32)
 }
 
 // The lines of a listing.
@@ -36,10 +31,8 @@ fn put_devices(out: &mut [u8], at: usize, listing: &[u16]) -> usize
     ensures { Puts out.old at (device_lines listing.now) out.new result }
 {
     let mut next = at;
-    let mut i = 0;
-    while i < listing.len() {
-        next = put_device(out, next, listing[i]);
-        i += 1;
+    for &d in listing {
+        next = put_numbered(out, next, b"(device ", u32::from(d));
     }
     next
 }

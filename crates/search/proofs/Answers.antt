@@ -1,14 +1,15 @@
 -- What an accepted query is, and its answer from the end of its run.
-use Prim.Native.Nat.{ℕ, zero, suc, ◌+◌, ◌<◌}
+use Prim.Native.Nat.{ℕ, zero, suc, ◌+◌, ◌≤◌, ◌<◌}
 use native.Mathlib.Omega.{arith}
 use mathlib.Core.Bool.{Bool, false}
 use mathlib.Core.List.{List, [], ◌∷◌, ◌++◌, map}
 use mathlib.Core.Path.{◌≡◌, refl, sym, ap, ◌∙◌, subst}
+use Rattle.std.proofs.Common.{Ok, Err}
 use denote.Ref.{Bor}
-use lib.ListN.{length, get_or, take, length-map}
+use lib.ListN.{length, get_or, take, length-map, length-append}
 use lib.Seq.{take_at}
 use Rattle.laws.specs.Tables.{entry}
-use Rattle.laws.proofs.Rows.{otherwise_none, otherwise_pick, refused_first, refused_next}
+use Rattle.laws.proofs.Rows.{otherwise_none, otherwise_pick}
 use Rattle.laws.proofs.Maps.{map_take}
 use Rattle.laws.proofs.Tests.{and_no}
 use Rattle.plant.specs.Plant.{Plant, size}
@@ -31,10 +32,13 @@ use Rattle.query.specs.declared.Levels.{Levels}
 use Rattle.query.specs.declared.Query.{Query}
 use Rattle.query.proofs.Accepted.{AcceptedSearch, accepted_search}
 use Rattle.query.proofs.TrueLevels.{untrue}
-use Rattle.search.specs.inner.Cursors.{Lists, Tables, GathersAll, begin, RunGives}
+use Rattle.search.specs.inner.Cursors.{most_cursors, Lists, Tables, Gathers, begin, RunGives}
 use Rattle.search.specs.Answer.{search_refusal, criteria, ended, answer_of, written}
 use Rattle.search.specs.Promises.{Promised, AsBefore, OverBoth, Searched}
-use Rattle.search.specs.declared.run.Listing.{Listing}
+use Rattle.search.specs.declared.Answer.{Answer}
+use Rattle.refusal.specs.declared.Refusal.{Refusal}
+use Rattle.refusal.specs.Numbers.{number}
+use Rattle.refusal.proofs.Numbers.{number_not_zero}
 use Rattle.search.proofs.RunByIndex.{begin_is}
 
 -- what the rows come to where none applies
@@ -65,39 +69,29 @@ getD-within-map f (t ∷ ts) zero h = refl
 getD-within-map f (t ∷ ts) (suc k) h = getD-within-map f ts k (omega arith)
 
 -- the slices that a query's lists were gathered in
-module _ {list : ℕ → List ℕ} {ts us : List ℕ} {slices : List (Bor (List ℕ))} {k n : ℕ} (g : GathersAll list ts us k slices n) where
-  lists-are : map (λ x. x.now) (take n slices) ≡ map list (ts ++ us)
-  lists-are = map_take (λ x. x.now) n slices ∙ g.same
+module _ {list : ℕ → List ℕ} (ts us : List ℕ) {slices : List (Bor (List ℕ))} (g : Gathers list (ts ++ us) slices) where
+  lists-are : map (λ x. x.now) (take (length ts + length us) slices) ≡ map list (ts ++ us)
+  lists-are = map_take (λ x. x.now) (length ts + length us) slices ∙ rw (← length-append ts us) g.same
 
   -- cursors may go along them
-  pub lists-fit : {last : List ℕ} → ((t : ℕ) → SoundList last (list t)) → Lists last (map (λ x. x.now) (take n slices))
-  lists-fit s = rw lists-are (record {
-    few = rw (length-map, ← g.count) g.few;
+  pub lists-fit : {last : List ℕ} → length ts + length us ≤ most_cursors → ((t : ℕ) → SoundList last (list t))
+      → Lists last (map (λ x. x.now) (take (length ts + length us) slices))
+  lists-fit w s = rw lists-are (record {
+    few = rw (length-map, length-append) w;
     each = λ i b. rw (getD-within-map list (ts ++ us) i (rw length-map at b)) (s (get_or (ts ++ us) i 0));
   })
 
   -- a run along them begins with the cursors of both kinds of terms
-  pub begins : begin k (map (λ x. x.now) (take n slices)) ≡ placed list runs.required ts ++ placed list runs.forbidden us
-  begins = rw lists-are (begin_is list ts us g.first)
+  pub begins : begin (length ts) (map (λ x. x.now) (take (length ts + length us) slices)) ≡ placed list runs.required ts ++ placed list runs.forbidden us
+  begins = rw lists-are (begin_is list ts us refl)
 
 -- so its end is the end of the steps
-pub run-ended : (P : Plant) (list : ℕ → List ℕ) (q : Query) {cs : List runs.Cursor} {out out' : List ℕ} {r : Listing}
+pub run-ended : (P : Plant) (list : ℕ → List ℕ) (q : Query) {cs : List runs.Cursor} {out out' : List ℕ} {r : Answer}
     → cs ≡ placed list runs.required (used q.required) ++ placed list runs.forbidden (used q.forbidden)
     → RunGives (run P.last P.root (size P + 1) (λ d. wants q.levels (entry P.level d)) (size P + 1) q.budget q.start cs) out out' r
     → RunGives (ended P list q q.budget) out out' r
 unfolding ended
 run-ended P list q e x = rw e at x
-
--- ---- the refusal
-
-module _ (P : Plant) (S : Indexes) (q : Query) (room : ℕ) {t : ℕ} (e : t ≡ indexes_refusal P S) where
-  pub refused-before : (t ≡ 0 → ⊥) → t ≡ search_refusal P S q room
-  unfolding search_refusal
-  refused-before = refused_first (indexes_refusal P S) (query_refusal (size P) room q) e
-
-  pub refused-here : {r : ℕ} → t ≡ 0 → r ≡ query_refusal (size P) room q → r ≡ search_refusal P S q room
-  unfolding search_refusal
-  refused-here = refused_next (indexes_refusal P S) (query_refusal (size P) room q) e
 
 -- ---- the answer
 
@@ -158,19 +152,18 @@ over_both P S q room = record {
   before = λ e. subst (λ (J : Index). AsBefore P (indexes S.first J) q room) (sym e) (as_before P S.first q room);
 }
 
-module _ (P : Plant) (S : Indexes) (q : Query) {out : List ℕ} {n : ℕ} (e : n ≡ search_refusal P S q (length out)) where
-  pub searched-refused : (n ≡ 0 → ⊥) → Searched P S q out out (record { refusal = n; count = 0; position = 0; passed = 0; moves = 0 })
-  searched-refused z = record {
-    answers = rw e (answer-refused (search_refusal P S q (length out)) _ (λ o. z (e ∙ o)));
-    lists = written-refused (search_refusal P S q (length out)) _ out (λ o. z (e ∙ o));
-    promised = λ o. absurd (z o);
+module _ (P : Plant) (S : Indexes) (q : Query) {out : List ℕ} where
+  pub searched-refused : (e : Refusal) → number e ≡ search_refusal P S q (length out) → Searched P S q out out (Err e)
+  searched-refused e h = record {
+    answers = rw h (answer-refused (search_refusal P S q (length out)) _ (λ o. number_not_zero e (h ∙ o)));
+    lists = written-refused (search_refusal P S q (length out)) _ out (λ o. number_not_zero e (h ∙ o));
+    promised = λ o. absurd (number_not_zero e o);
     over_both = over_both P S q (length out);
   }
 
-  pub searched : {out' : List ℕ} {r : Listing} → n ≡ 0 → RunGives (ended P (list_of S) q q.budget) out out' r
-      → Searched P S q out out' (record { refusal = 0; count = r.count; position = r.position; passed = r.passed; moves = r.moves })
-  searched {out'} {r} z x =
-      let o : search_refusal P S q (length out) ≡ 0 = sym e ∙ z in
+  pub searched : {out' : List ℕ} {r : Answer} → search_refusal P S q (length out) ≡ 0 → RunGives (ended P (list_of S) q q.budget) out out' r
+      → Searched P S q out out' (Ok r)
+  searched {out'} {r} o x =
       let listed = (ended P (list_of S) q q.budget).listed in
       let t : take (length listed) out' ≡ listed = rw x.written (take_at listed _ (length listed) refl) in
       record {

@@ -7,8 +7,9 @@ use mathlib.Core.Bool.{Bool, true, false, cond, not, beq, true≢false, false≢
 use mathlib.Core.List.{List, [], ◌∷◌, ◌++◌, map, append_assoc, append-nil}
 use mathlib.Core.Path.{◌≡◌, refl, sym, ap, ap₂, ◌∙◌}
 use denote.Ref.{Bor}
+use Rattle.std.proofs.Common.{Option, Some, None}
 use lib.Dec.{ltb}
-use lib.ListN.{length, get_or, take, drop, set, length-set, get_or-map}
+use lib.ListN.{length, get_or, take, drop, set, length-set, length-map, get_or-map}
 use lib.Seq.{drop-cons, take-suc, split_at, drop-length, take-length, length-take-le, get_or-set_same, get_or-set_other}
 use Rattle.laws.specs.Limits.{most_devices, largest_number}
 use Rattle.laws.proofs.Cases.{by_order}
@@ -20,8 +21,9 @@ use Rattle.steps.proofs.Counts.{round_by}
 use Rattle.steps.proofs.Rounds.{asks}
 use Rattle.steps.proofs.Stretch.{Rests, rests_on, rests_outcome, Accept}
 use Rattle.search.specs.inner.Cursors.{most_cursors, most_passed, Cursor, Tables, Brings, side_of, cursors, Valid, Turns}
-use Rattle.search.specs.declared.cursor.CursorAt.{CursorAt}
-use Rattle.search.specs.declared.run.RoundEnd.{RoundEnd}
+use Rattle.search.specs.declared.cursor.Counts as code
+use Rattle.search.specs.declared.cursor.Rest.{Rest}
+use Rattle.search.specs.declared.run.Round.TheVariants.{Accepts, Again}
 
 -- ---- the cursors, by index
 
@@ -103,9 +105,12 @@ asked_so true false h = absurd (true≢false h)
 asked_so false true h = absurd (true≢false h)
 asked_so false false h = refl
 
--- what lies behind the element at i of an array of slices; past its end stands an empty one
+-- the k-th of some slices, and how many they are
 pub element : (l : List (Bor (List ℕ))) (i : ℕ) → (get_or l i (record { ref_ptr = (0, 0); now = [] })).now ≡ get_or (map (λ x. x.now) l) i []
 element l i = sym (get_or-map (λ x. x.now) l i _)
+
+pub inside : (l : List (Bor (List ℕ))) {i : ℕ} → i < length l → i < length (map (λ x. x.now) l)
+inside l h = rw length-map h
 
 -- more cursors and counts in front of a round's
 abbrev pub leads : List runs.Cursor → Counts → runs.Round → runs.Round
@@ -114,22 +119,20 @@ leads cs n r = record { cursors = cs ++ r.cursors; counts = plus n r.counts; out
 abbrev pub counts : ℕ → ℕ → Counts
 counts m p = record { moves = m; passed = p }
 
--- the cursors before i, of n, are done, and accept each position from p to `to`: those from i on, with the moves left, give what the whole gives
-pub record Doing (last root : List ℕ) (ls : List (List ℕ)) (n k end p budget m₀ s₀ : ℕ) (x₀ x : List ℕ) (m s to i : ℕ) : Type 0 where
-  pub count : length ls ≡ n
+-- the cursors before i are done, and accept each position from p to `to`: those from i on, with the moves left, give what the whole gives
+pub record Doing (last root : List ℕ) (ls : List (List ℕ)) (k p budget : ℕ) (x₀ x : List ℕ) (c₀ c : code.Counts) (to i : ℕ) : Type 0 where
   pub valid : Valid last ls x
   pub within : i ≤ length ls
   pub devices : length last ≤ most_devices
-  pub further : s₀ ≤ s
-  pub small : s ≤ s₀ + i * most_devices
-  pub more : m₀ ≤ m
-  pub few : m ≤ budget
+  pub further : c₀.passed ≤ c.passed
+  pub small : c.passed ≤ c₀.passed + i * most_devices
+  pub more : c₀.moves ≤ c.moves
+  pub few : c.moves ≤ budget
   pub from : p ≤ to
-  pub inside : to < end
   pub bound : to ≤ length last
-  pub same : round last root end p (budget - m₀) (cursors k x₀ 0 ls)
-      ≡ leads (cursors k x 0 (take i ls)) (counts (m - m₀) (s - s₀)) (round last root end p (budget - m) (cursors k x i (drop i ls)))
-  pub steady : (q : ℕ) → p ≤ q → q ≤ to → Accept last end q (cursors k x 0 (take i ls))
+  pub same : round last root (length last + 1) p (budget - c₀.moves) (cursors k x₀ 0 ls)
+      ≡ leads (cursors k x 0 (take i ls)) (counts (c.moves - c₀.moves) (c.passed - c₀.passed)) (round last root (length last + 1) p (budget - c.moves) (cursors k x i (drop i ls)))
+  pub steady : (q : ℕ) → p ≤ q → q ≤ to → Accept last (length last + 1) q (cursors k x 0 (take i ls))
 
 round_same : {cs ds : List runs.Cursor} {m n p q : ℕ} {o : Outcome} → cs ≡ ds → m ≡ n → p ≡ q
     → ◌≡◌ {A = runs.Round} (record { cursors = cs; counts = counts m p; outcome = o }) (record { cursors = ds; counts = counts n q; outcome = o })
@@ -143,11 +146,10 @@ accept_more last end q (d ∷ ds) c a e = (a.0, accept_more last end q ds c a.1 
 leads_none : (r : runs.Round) → r ≡ leads [] (counts 0 0) r
 leads_none r = ap (λ n. record { cursors = r.cursors; counts = n; outcome = r.outcome }) (ap₂ counts (omega arith) (omega arith))
 
-pub doing_start : {last root : List ℕ} {ls : List (List ℕ)} {n k end p budget m s : ℕ} {x : List ℕ} → Tables last root → Valid last ls x → p < end → end ≤ length last + 1 → m ≤ budget → length ls ≡ n
-    → Doing last root ls n k end p budget m s x x m s (end - 1) 0
+pub doing_start : {last root : List ℕ} {ls : List (List ℕ)} {k p budget : ℕ} {x : List ℕ} {c : code.Counts} → Tables last root → Valid last ls x → p ≤ length last → c.moves ≤ budget
+    → Doing last root ls k p budget x x c c (length last) 0
 unfolding cursors
-doing_start {m} {s} t v h w b e = let u : m - m ≡ 0 = omega arith in let z : s - s ≡ 0 = omega arith in record {
-  count = e;
+doing_start {c} t v h b = let u : c.moves - c.moves ≡ 0 = omega arith in let z : c.passed - c.passed ≡ 0 = omega arith in record {
   valid = v;
   devices = t.few;
   further = omega arith;
@@ -155,137 +157,122 @@ doing_start {m} {s} t v h w b e = let u : m - m ≡ 0 = omega arith in let z : s
   within = omega arith;
   more = omega arith;
   few = b;
-  from = omega arith;
-  inside = omega arith;
+  from = h;
   bound = omega arith;
   same = rw (u, z) (leads_none _);
   steady = λ q a b. tt;
 }
 
-module _ {last root : List ℕ} {ls : List (List ℕ)} {n k end p budget m₀ s₀ : ℕ} {x₀ x : List ℕ} {m s to i : ℕ}
-    (a : Doing last root ls n k end p budget m₀ s₀ x₀ x m s to i) where
-  pub doing_ends : n ≤ i → {r : RoundEnd} → r ≡ record { moves = m; passed = s; to = to; accepted = true; stop = false } → Turns last root ls k end p budget m₀ s₀ x₀ x r
+module _ {last root : List ℕ} {ls : List (List ℕ)} {k p budget : ℕ} {x₀ x : List ℕ} {c₀ c : code.Counts} {to i : ℕ}
+    (a : Doing last root ls k p budget x₀ x c₀ c to i) where
+  pub doing_ends : length ls ≤ i → Turns last root ls k p budget x₀ x c₀ c (Some (Accepts to))
   unfolding cursors round
-  doing_ends h o = let e : i ≡ length ls = omega arith in rw o (record {
+  doing_ends h = let e : i ≡ length ls = omega (arith, a.within) in record {
     valid = a.valid;
     more = a.more;
     few = a.few;
     further = a.further;
-    from = a.from;
     same = a.same ∙ rw (e, drop-length, take-length, append-nil) (round_same refl (omega arith) (omega arith));
-    bound = λ z. a.bound;
-    inside = λ z. a.inside;
-    steady = λ z q u v. rw (e, take-length) at (a.steady q u v);
-  })
+    goes = (a.from, a.bound, λ q u v. rw (e, take-length) at (a.steady q u v));
+  }
 
-  module _ (h : i < n) where
-    inside : i < length ls
-    inside = omega arith
+  module _ (h : i < length ls) where
+    pub in_array : i < most_cursors
+    in_array = omega (arith, a.valid.few)
 
     indexed : i < length x
-    indexed = let l = inside in omega arith
-
-    pub in_array : i < most_cursors
-    in_array = let l = inside in omega arith
-
-    -- what the cursors before it passed over fits
-    pub skips : s₀ ≤ most_passed → s ≤ largest_number
-    skips h = let l = in_array in omega (arith, a.small)
+    indexed = omega (arith, in_array, a.valid.long)
 
     pub here : {l : List ℕ} → l ≡ get_or ls i [] → Cursor last l (get_or x i 0)
-    here e = rw e (a.valid.each i inside)
+    here e = rw e (a.valid.each i h)
 
-    module _ {l : List ℕ} {b : CursorAt} (g : Brings last root l end p budget m s (get_or x i 0) b) (o : l ≡ get_or ls i []) where
+    -- what the cursors up to it pass over fits
+    pub fits : {l : List ℕ} → l ≡ get_or ls i [] → c₀.passed ≤ most_passed → c.passed + length l ≤ largest_number
+    fits e h = omega (arith, in_array, a.small, a.devices, sound_few (here e).sound)
+
+    module _ {l : List ℕ} {j : ℕ} {c' : code.Counts} {r : Option Rest} (g : Brings last root l p budget (get_or x i 0) j c c' r) (o : l ≡ get_or ls i []) where
       abbrev x' : List ℕ
-      x' = set x i b.at
+      x' = set x i j
 
       moved : Valid last ls x'
-      moved = put_valid k x ls i b.at inside indexed a.valid (rw (← o) g.within)
+      moved = put_valid k x ls i j h indexed a.valid (rw (← o) g.within)
 
       abbrev rest : List runs.Cursor
       rest = cursors k x (i + 1) (drop (i + 1) ls)
 
       -- no more has been passed over than there are devices, by each cursor
-      few_passed : b.passed ≤ s₀ + (i + 1) * most_devices
+      few_passed : c'.passed ≤ c₀.passed + (i + 1) * most_devices
       few_passed = omega (arith, a.small, a.devices, g.bounded, sound_few (here o).sound)
 
       -- the round from cursor i on, by what comes of that cursor
-      first : (c : Outcome) → outcome last end p (side_of k i) (drop b.at l) ≡ c →
-          round last root end p (budget - m) (cursors k x i (drop i ls))
-          ≡ onto (placed k i l b.at) (counts (b.moves - m) (b.passed - s)) (elim c [
-            | accepts ↦ round last root end p (budget - m - (b.moves - m)) rest
+      first : (y : Outcome) → outcome last (length last + 1) p (side_of k i) (drop j l) ≡ y →
+          round last root (length last + 1) p (budget - c.moves) (cursors k x i (drop i ls))
+          ≡ onto (placed k i l j) (counts (c'.moves - c.moves) (c'.passed - c.passed)) (elim y [
+            | accepts ↦ round last root (length last + 1) p (budget - c.moves - (c'.moves - c.moves)) rest
             | again q ↦ unmoved_all rest (again q)
             | stops ↦ unmoved_all rest stops
           ])
-      first c e = rw (cursors_from k x ls i inside, ← o) (round_by last root end p (budget - m) (placed k i l (get_or x i 0)) rest _ c g.same e)
+      first y e = rw (cursors_from k x ls i h, ← o) (round_by last root (length last + 1) p (budget - c.moves) (placed k i l (get_or x i 0)) rest _ y g.same e)
 
       -- the round ends at cursor i
-      ends : (c : Outcome) → outcome last end p (side_of k i) (drop b.at l) ≡ c → unmoved_all rest c ≡ (elim c [
-        | accepts ↦ round last root end p (budget - m - (b.moves - m)) rest
+      ends : (y : Outcome) → outcome last (length last + 1) p (side_of k i) (drop j l) ≡ y → unmoved_all rest y ≡ (elim y [
+        | accepts ↦ round last root (length last + 1) p (budget - c.moves - (c'.moves - c.moves)) rest
         | again q ↦ unmoved_all rest (again q)
         | stops ↦ unmoved_all rest stops
-      ]) → round last root end p (budget - m₀) (cursors k x₀ 0 ls) ≡ record { cursors = cursors k x' 0 ls; counts = counts (b.moves - m₀) (b.passed - s₀); outcome = c }
-      ends c e u =
+      ]) → round last root (length last + 1) p (budget - c₀.moves) (cursors k x₀ 0 ls)
+          ≡ record { cursors = cursors k x' 0 ls; counts = counts (c'.moves - c₀.moves) (c'.passed - c₀.passed); outcome = y }
+      ends y e u =
           a.same
-          ∙ ap (leads (cursors k x 0 (take i ls)) (counts (m - m₀) (s - s₀))) (first c e ∙ ap (onto (placed k i l b.at) (counts (b.moves - m) (b.passed - s))) (sym u))
-          ∙ round_same (sym (put_all k x ls i b.at inside indexed ∙ rw (← o))) (omega (arith, g.more, a.more)) (omega (arith, g.further, a.further))
+          ∙ ap (leads (cursors k x 0 (take i ls)) (counts (c.moves - c₀.moves) (c.passed - c₀.passed)))
+          (first y e ∙ ap (onto (placed k i l j) (counts (c'.moves - c.moves) (c'.passed - c.passed))) (sym u))
+          ∙ round_same (sym (put_all k x ls i j h indexed ∙ rw (← o))) (omega (arith, g.more, a.more)) (omega (arith, g.further, a.further))
 
-      pub doing_stops : b.spent ≡ true → {r : RoundEnd} → r ≡ record { moves = b.moves; passed = b.passed; to = p; accepted = false; stop = true }
-          → Turns last root ls k end p budget m₀ s₀ x₀ x' r
-      doing_stops e f = rw f (record {
-        valid = moved;
+    module _ {l : List ℕ} {j : ℕ} {c' : code.Counts} (o : l ≡ get_or ls i []) where
+      pub doing_stops : Brings last root l p budget (get_or x i 0) j c c' None → Turns last root ls k p budget x₀ (set x i j) c₀ c' None
+      doing_stops g = record {
+        valid = moved g o;
         more = omega (arith, g.more, a.more);
         few = g.few;
         further = omega (arith, g.further, a.further);
-        from = omega arith;
-        bound = λ z. absurd (true≢false z);
-        same = ends stops (rw (g.stops e, outcome)) refl;
-        inside = λ z. absurd (false≢true z);
-        steady = λ z. absurd (false≢true z);
-      })
+        same = ends g o stops (rw (g.rests, outcome)) refl;
+        goes = tt;
+      }
 
-      module _ (e : b.spent ≡ false) {asked : Bool} (q : asked ≡ ltb i k) where
-        resting : Rests last end (drop b.at l) p b.carries b.to
-        resting = g.rests e
+      module _ {r : Rest} (g : Brings last root l p budget (get_or x i 0) j c c' (Some r)) {asked : Bool} (q : asked ≡ ltb i k) where
+        resting : Rests last (length last + 1) (drop j l) p r.carries r.to
+        resting = g.rests.1
 
-        pub doing_again : not (beq b.carries asked) ≡ true
-            → {r : RoundEnd} → r ≡ record { moves = b.moves; passed = b.passed; to = b.to; accepted = false; stop = false }
-            → Turns last root ls k end p budget m₀ s₀ x₀ x' r
-        doing_again z f = rw f (record {
-          valid = moved;
+        pub doing_again : not (beq r.carries asked) ≡ true → Turns last root ls k p budget x₀ (set x i j) c₀ c' (Some (Again (r.to + 1)))
+        doing_again z = record {
+          valid = moved g o;
           more = omega (arith, g.more, a.more);
           few = g.few;
           further = omega (arith, g.further, a.further);
-          from = resting.from;
-          bound = λ z. g.bound e;
-          same = ends (again (b.to + 1)) (rests_outcome (side_of k i) (drop b.at l) p b.carries resting ∙ rw (asked_not b.carries (ltb i k) (rw q at z))) refl;
-          inside = λ z. absurd (false≢true z);
-          steady = λ z. absurd (false≢true z);
-        })
+          same = ends g o (again (r.to + 1)) (rests_outcome (side_of k i) (drop j l) p r.carries resting ∙ rw (asked_not r.carries (ltb i k) (rw q at z))) refl;
+          goes = (omega (arith, resting.from), omega (arith, g.rests.0));
+        }
 
-        pub doing_more : not (beq b.carries asked) ≡ false → {to' : ℕ} → to' ≡ min b.to to
-            → Doing last root ls n k end p budget m₀ s₀ x₀ x' b.moves b.passed to' (i + 1)
-        doing_more z t =
-            let so = asked_so b.carries (ltb i k) (rw q at z) in
-            let u : budget - m - (b.moves - m) ≡ budget - b.moves = omega (arith, g.more) in
+        pub doing_more : not (beq r.carries asked) ≡ false → Doing last root ls k p budget x₀ (set x i j) c₀ c' (min to r.to) (i + 1)
+        doing_more z =
+            let so = asked_so r.carries (ltb i k) (rw q at z) in
+            let u : budget - c.moves - (c'.moves - c.moves) ≡ budget - c'.moves = omega (arith, g.more) in
             record {
-              count = a.count;
               devices = a.devices;
               further = omega (arith, g.further, a.further);
-              small = few_passed;
-              valid = moved;
-              within = let l = inside in omega arith;
+              small = few_passed g o;
+              valid = moved g o;
+              within = omega arith;
               more = omega (arith, g.more, a.more);
               few = g.few;
               from = omega (arith, resting.from, a.from);
-              inside = omega (arith, a.inside);
               bound = omega (arith, a.bound);
               same =
                   a.same
-                  ∙ ap (leads (cursors k x 0 (take i ls)) (counts (m - m₀) (s - s₀))) (first accepts (rests_outcome (side_of k i) (drop b.at l) p b.carries resting ∙ rw so))
-                  ∙ rw (u, put_upto k x ls i b.at inside indexed, ← o, ← kept_after k x ls i b.at inside indexed, append_assoc)
+                  ∙ ap (leads (cursors k x 0 (take i ls)) (counts (c.moves - c₀.moves) (c.passed - c₀.passed)))
+                  (first g o accepts (rests_outcome (side_of k i) (drop j l) p r.carries resting ∙ rw so))
+                  ∙ rw (u, put_upto k x ls i j h indexed, ← o, ← kept_after k x ls i j h indexed, append_assoc)
                   (round_same refl (omega (arith, g.more, a.more)) (omega (arith, g.further, a.further)));
-              steady = λ y v w. rw (put_upto k x ls i b.at inside indexed, ← o)
-                  (accept_more last end y (cursors k x 0 (take i ls)) (placed k i l b.at) (a.steady y v (omega arith))
-                  (rests_outcome (side_of k i) (drop b.at l) y b.carries (rests_on b.carries resting y v (omega arith)) ∙ rw so));
+              steady = λ y v w. rw (put_upto k x ls i j h indexed, ← o)
+                  (accept_more last (length last + 1) y (cursors k x 0 (take i ls)) (placed k i l j) (a.steady y v (omega arith))
+                  (rests_outcome (side_of k i) (drop j l) y r.carries (rests_on r.carries resting y v (omega arith)) ∙ rw so));
             }

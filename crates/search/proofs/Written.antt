@@ -3,9 +3,9 @@ use Prim.Native.Nat.{ℕ, zero, suc, ◌+◌, ◌-◌, ◌≤◌, ◌<◌}
 use native.Mathlib.Omega.{arith}
 use native.Mathlib.Numerals.{add-one}
 use native.Mathlib.Nat.{add-zero}
-use mathlib.Core.Bool.{Bool, true, false, cond}
+use mathlib.Core.Bool.{Bool, true, false}
 use mathlib.Core.List.{List, ◌++◌, append_assoc}
-use mathlib.Core.Path.{◌≡◌, refl, sym, ◌∙◌}
+use mathlib.Core.Path.{◌≡◌, sym, ◌∙◌}
 use lib.ListN.{length, drop, set, length-set, length-append, length-drop}
 use lib.Seq.{sets, sets-eq, take_at, drop_at, drop-drop}
 use Rattle.steps.specs.Matching.{put, matching}
@@ -36,37 +36,30 @@ pub record Filling (ok : ℕ → Bool) (from to : ℕ) (out₀ : List ℕ) (coun
   pub same : sets out₀ count (matching ok (to + 1 - from) from) ≡ sets out n (matching ok (to + 1 - d) d)
   pub total : count + length (matching ok (to + 1 - from) from) ≡ n + length (matching ok (to + 1 - d) d)
 
-pub filling_start : {ok : ℕ → Bool} {from to : ℕ} {out : List ℕ} {count : ℕ} → count < from → from ≤ to → Filling ok from to out count out from count
-filling_start h k = record { long = refl; room = h; within = omega arith; same = refl; total = refl }
-
 module _ {ok : ℕ → Bool} {from to : ℕ} {out₀ : List ℕ} {count : ℕ} {out : List ℕ} {d n : ℕ} (a : Filling ok from to out₀ count out d n) where
-  pub filling_more : {b : Bool} {n' : ℕ} {out' : List ℕ} → d ≤ to → b ≡ ok d → n' ≡ cond b (n + 1) n → out' ≡ cond b (set out n d) out
-      → Filling ok from to out₀ count out' (d + 1) n'
+  next : d ≤ to → to + 1 - d ≡ suc (to + 1 - (d + 1))
+  next h = omega arith
+
+  pub filling_put : {n' : ℕ} {out' : List ℕ} → d ≤ to → ok d ≡ true → out' ≡ set out n d → n' ≡ n + 1 → Filling ok from to out₀ count out' (d + 1) n'
   unfolding matching
-  filling_more {b} h e c o = on b e c o
-    where
-      left : to + 1 - d ≡ suc (to + 1 - (d + 1))
-      left = omega arith
+  filling_put h e o c = rw (o, c) (record {
+    long = rw length-set a.long;
+    room = omega arith;
+    within = omega arith;
+    same = a.same ∙ rw (next h, e, add-one n);
+    total = a.total ∙ rw (next h, e) (omega arith);
+  })
 
-      on : (b : Bool) {n' : ℕ} {out' : List ℕ} → b ≡ ok d → n' ≡ cond b (n + 1) n → out' ≡ cond b (set out n d) out → Filling ok from to out₀ count out' (d + 1) n'
-      on true e c o = rw (c, o) (record {
-        long = rw length-set a.long;
-        room = omega arith;
-        within = omega arith;
-        same = a.same ∙ rw (left, ← e, add-one n);
-        total = a.total ∙ rw (left, ← e) (omega arith);
-      })
-      on false e c o = rw (c, o) (record {
-        long = a.long;
-        room = omega arith;
-        within = omega arith;
-        same = a.same ∙ rw (left, ← e);
-        total = a.total ∙ rw (left, ← e);
-      })
-
-  pub filling_ends : {passed : Bool} → passed ≡ true → to < d → Writes passed ok from to out₀ out count n
+  pub filling_skip : {n' : ℕ} {out' : List ℕ} → d ≤ to → ok d ≡ false → out' ≡ out → n' ≡ n → Filling ok from to out₀ count out' (d + 1) n'
   unfolding matching
-  filling_ends f h = let u : to + 1 - d ≡ 0 = omega arith in rw f (record { written = sym (a.same ∙ rw u); long = sym (a.total ∙ rw (u, add-zero n)) })
+  filling_skip h e o c = rw (o, c) (record {
+    long = a.long;
+    room = omega arith;
+    within = omega arith;
+    same = a.same ∙ rw (next h, e);
+    total = a.total ∙ rw (next h, e);
+  })
 
-pub filling_none : {ok : ℕ → Bool} {from to : ℕ} {out : List ℕ} {count : ℕ} {passed : Bool} → passed ≡ false → Writes passed ok from to out out count count
-filling_none f = rw f (record { written = refl; long = rw (add-zero _) })
+  pub filling_ends : to < d → Writes ok from to out₀ out count n
+  unfolding matching
+  filling_ends h = let u : to + 1 - d ≡ 0 = omega arith in record { written = sym (a.same ∙ rw u); long = sym (a.total ∙ rw (u, add-zero n)) }

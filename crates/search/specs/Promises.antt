@@ -1,5 +1,5 @@
 -- What a search gives, and what is promised of it: demands 2 and 3 where it is not refused, and document 02's two indexes.
-use Rattle.std.specs.Prelude.{ℕ, ◌≡◌, Bool, false, List, [], ◌++◌, length, take}
+use Rattle.std.specs.Prelude.{ℕ, ◌≡◌, Bool, false, List, [], ◌++◌, length, take, Result}
 use Rattle.laws.specs.Rows.{pick, otherwise}
 use Rattle.laws.specs.Tables.{entry}
 use Rattle.plant.specs.Plant.{Plant, size}
@@ -13,7 +13,8 @@ use Rattle.query.specs.Query.{with_levels, any_code}
 use Rattle.query.specs.Refusals.{query_refusal}
 use Rattle.query.specs.declared.Levels.{Levels}
 use Rattle.query.specs.declared.Query.{Query}
-use Rattle.search.specs.Answer.{search_refusal, criteria, ended, answer, answer_list}
+use Rattle.search.specs.Answer.{search_refusal, criteria, ended, told, answer, answer_list}
+use Rattle.refusal.specs.declared.Refusal.{Refusal}
 use Rattle.search.specs.declared.Answer.{Answer}
 
 -- what matches is listed, by the lists that a lookup gives, and the position, what was passed over and the moves are those of a run that keeps its
@@ -47,8 +48,8 @@ pub record OverBoth (P : Plant) (S : Indexes) (q : Query) (room : ℕ) : Type 0 
   pub before : S.second ≡ index [] [] [] → AsBefore P S q room
 
 -- r and the answer list, which was `out`
-pub record Searched (P : Plant) (S : Indexes) (q : Query) (out out' : List ℕ) (r : Answer) : Type 0 where
-  pub answers : r ≡ answer P S q (length out)
+pub record Searched (P : Plant) (S : Indexes) (q : Query) (out out' : List ℕ) (r : Result Answer Refusal) : Type 0 where
+  pub answers : told r ≡ answer P S q (length out)
   pub lists : out' ≡ answer_list P S q out
-  pub promised : r.refusal ≡ 0 → Promised P (list_of S) q (take r.count out') r.position r.passed r.moves
+  pub promised : (told r).refusal ≡ 0 → Promised P (list_of S) q (take (told r).count out') (told r).position (told r).passed (told r).moves
   pub over_both : OverBoth P S q (length out)

@@ -1,116 +1,86 @@
 // One cursor: an index into a sorted list of postings.
-ghost use Rattle.std.specs.Prelude.{◌≡◌, ◌+◌, ◌≤◌, ◌<◌, length, false};
-ghost use Rattle.laws.specs.Limits.{largest_number};
+ghost use Rattle.std.specs.Prelude.{◌≡◌, ◌+◌, ◌≤◌, length};
+ghost use Rattle.laws.specs.Limits.{most_devices, largest_number};
 ghost use Rattle.laws.specs.Tables.{entry};
 ghost use Rattle.laws.specs.inner.Entries.{IsEntry};
-ghost use Rattle.index.specs.Postings.{device, reach};
+ghost use Rattle.index.specs.Postings.{device};
 ghost use Rattle.search.specs.inner.Cursors.{Tables, Cursor, Brings};
 ghost use Rattle.steps.proofs.ByIndex.{target};
 
-use index::seek;
+use index::{device_of, reach_by, seek};
+use plant::DeviceTables;
 
 // The entry of device d.
-fn entry_of(table: &[u16], d: u32) -> u32
+fn entry_of(table: &[u16], d: usize) -> usize
     requires { IsEntry table.now d }
-    ensures { (result ≡ entry table.now d) × (result < 65536) }
+    ensures { (result ≡ entry table.now d) × (result ≤ most_devices) }
 {
-    let i = (d - 1) as usize;
-    table[i] as u32
-}
-
-// The last device that posting q carries its term to. The table is read before it is known whether the posting is shared: the choice is then
-// no branch to be guessed.
-fn reach(last: &[u16], q: u32) -> u32
-    requires { IsEntry last.now (device q) }
-    ensures { (result ≡ reach last.now q) × (result < 2147483648) }
-{
-    let end = entry_of(last, q / 2);
-    if q % 2 == 1 { end } else { q / 2 }
+    usize::from(table[d - 1])
 }
 
 // The device that a move from posting q towards position p goes to, which is above its own; one past its own is the next posting's or before it.
-fn target(last: &[u16], root: &[u16], p: u32, q: u32) -> u32
-    requires { IsEntry last.now (device q) × IsEntry root.now p }
-    ensures { result ≡ target last.now root.now p q }
+fn target(plant: DeviceTables, p: usize, q: u32) -> usize
+    requires { IsEntry plant.last.now (device q) × IsEntry plant.root.now p }
+    ensures { (result ≡ target plant.entry.last.now plant.entry.root.now p q) × (result ≤ largest_number) }
 {
-    let d = q / 2;
-    let top = entry_of(root, p);
+    let d = device_of(q);
+    let top = entry_of(plant.root, p);
     if d < top {
         return top;
     }
-    let end = entry_of(last, d);
+    let end = entry_of(plant.last, d);
     if end < p { end + 1 } else { d + 1 }
 }
 
-// A cursor brought to a position: its index, the moves made so far and how many postings they passed over, whether its posting carries to the
-// position, and the last position up to which that stays so without a move; or that the next move would exceed the budget.
+// The moves made so far, and how many postings they passed over.
 #[derive(Clone, Copy)]
-pub struct CursorAt {
-    pub at: usize,
-    pub moves: usize,
-    pub passed: usize,
+pub struct Counts {
+    pub moves: u32,
+    pub passed: u32,
+}
+
+// A cursor that was brought to a position: whether its posting carries there, and the last position up to which that stays so without a move.
+#[derive(Clone, Copy)]
+pub struct Rest {
     pub carries: bool,
-    pub to: u32,
-    pub spent: bool,
+    pub to: usize,
 }
 
-fn stays(at: usize, moves: usize, passed: usize, carries: bool, to: u32) -> CursorAt
-    ensures { result ≡ record { at = at; moves = moves; passed = passed; carries = carries; to = to; spent = false } }
-{
-    CursorAt {
-        at,
-        moves,
-        passed,
-        carries,
-        to,
-        spent: false,
-    }
-}
-
-// Brings the cursor at index `from` of a list to position p, where `made` moves have been made of a budget, and passed over `skipped` postings, so
-// few that the sum fits.
+// Brings the cursor at index `at` of a list to position p, or answers None where the next move would exceed the budget.
 pub fn bring(
-    last: &[u16],
-    root: &[u16],
+    plant: DeviceTables,
     list: &[u32],
-    from: usize,
-    p: u32,
-    end: u32,
+    at: &mut usize,
+    p: usize,
     budget: u32,
-    made: usize,
-    skipped: usize,
-) -> CursorAt
-    requires { Tables last.now root.now × Cursor last.now list.now from × IsEntry last.now p × (p < end) × (end ≤ length last.now + 1) × (made ≤ budget) × (skipped ≤ largest_number) }
-    ensures { Brings last.now root.now list.now end p budget made skipped from result }
+    counts: &mut Counts,
+) -> Option<Rest>
+    requires { Tables plant.last.now plant.root.now × Cursor plant.last.now list.now at.old × IsEntry plant.last.now p
+        × (counts.old.moves ≤ budget) × (counts.old.passed + length list.now ≤ largest_number) }
+    ensures { Brings plant.entry.last.now plant.entry.root.now list.now p budget at.old at.new counts.old counts.new result }
 {
-    let most = budget as usize;
-    let mut at = from;
-    let mut moves = made;
-    let mut passed = skipped;
-    while at < list.len() {
-        let q = list[at];
-        if p < q / 2 {
-            return stays(at, moves, passed, false, q / 2 - 1);
-        }
-        let reached = reach(last, q);
-        if p <= reached {
-            return stays(at, moves, passed, true, reached);
-        }
-        if most <= moves {
-            return CursorAt {
-                at,
-                moves,
-                passed,
+    // It jumps to where `seek` lands.
+    while let Some(&q) = list.get(*at) {
+        let d = device_of(q);
+        if p < d {
+            return Some(Rest {
                 carries: false,
-                to: p,
-                spent: true,
-            };
+                to: d - 1,
+            });
         }
-        let device = target(last, root, p, q);
-        let step = seek(list, at, device);
-        moves += 1;
-        passed += step.passed;
-        at = step.at;
+        // The end is read before it is known whether the posting is shared: the choice is then no branch to be guessed.
+        let to = reach_by(entry_of(plant.last, d), q);
+        if p <= to {
+            return Some(Rest { carries: true, to });
+        }
+        if budget <= counts.moves {
+            return None;
+        }
+        let step = seek(list, *at, target(plant, p, q) as u32);
+        counts.moves += 1;
+        counts.passed += step.passed as u32;
+        *at = step.at;
     }
-    stays(at, moves, passed, false, end - 1)
+    let to = plant.last.len();
+    Some(Rest { carries: false, to })
 }

@@ -1,213 +1,123 @@
 // The rounds of a run: one round, the devices that it lists, all rounds.
-ghost use Rattle.std.specs.Prelude.{◌≡◌, ◌+◌, ◌≤◌, ◌<◌, cond, map, length, set};
-ghost use Rattle.laws.specs.Limits.{most_devices, largest_number};
+ghost use Rattle.std.specs.Prelude.{◌≡◌, ◌+◌, ◌≤◌, ◌<◌, map, length};
+ghost use Rattle.laws.specs.Limits.{most_devices};
 ghost use Rattle.laws.specs.Tables.{entry};
 ghost use Rattle.laws.specs.inner.Entries.{IsEntry};
 ghost use Rattle.steps.specs.Steps.{run};
 ghost use Rattle.query.specs.Query.{wants};
 ghost use Rattle.search.specs.inner.Cursors.{most_passed, Tables, Valid, Turns, Lists, Writes, RunGives, begin};
 
-use crate::cursor::bring;
-use integers::least_u32;
-use query::{Levels, wants};
+use crate::Answer;
+use crate::cursor::{Counts, bring};
+use plant::DeviceTables;
+use query::{Levels, Query, wants};
 
-// How a round at a position p ends: every cursor accepts each position from p to `to`; or the position is set to the one after `to`; or the
-// next move would exceed the budget. The moves made so far, and how many postings they passed over.
+// How a round at a position ends.
 #[derive(Clone, Copy)]
-pub struct RoundEnd {
-    pub moves: usize,
-    pub passed: usize,
-    pub to: u32,
-    pub accepted: bool,
-    pub stop: bool,
+pub enum Round {
+    // Every cursor accepts each position from there to this one.
+    Accepts(usize),
+    // The position is set to this one, and the round begins again.
+    Again(usize),
 }
 
-fn round_of(moves: usize, passed: usize, to: u32, accepted: bool, stop: bool) -> RoundEnd
-    ensures { result ≡ record { moves = moves; passed = passed; to = to; accepted = accepted; stop = stop } }
-{
-    RoundEnd {
-        moves,
-        passed,
-        to,
-        accepted,
-        stop,
-    }
-}
-
-// One round at position p, where `made` moves have been made of a budget, and passed over `skipped` postings. Cursor k is at index positions[k] of
-// lists[k]; the first `required` of them are of required terms, the others of forbidden ones.
+// One round at position p, or None where the next move would exceed the budget. Cursor k is at index positions[k] of lists[k]; the first `required`
+// of them are of required terms, the others of forbidden ones.
 fn pass(
-    last: &[u16],
-    root: &[u16],
+    plant: DeviceTables,
     lists: &[&[u32]],
     required: usize,
     positions: &mut [usize; 16],
-    p: u32,
-    end: u32,
+    p: usize,
     budget: u32,
-    made: usize,
-    skipped: usize,
-) -> RoundEnd
-    requires { Tables last.now root.now × IsEntry last.now p × (p < end) × (end ≤ length last.now + 1)
-        × Valid last.now (map (λ x. x.now) lists.now) positions.old × (made ≤ budget) × (skipped ≤ most_passed) }
-    ensures { Turns last.now root.now (map (λ x. x.now) lists.now) required end p budget made skipped positions.old positions.new result }
+    counts: &mut Counts,
+) -> Option<Round>
+    requires { Tables plant.last.now plant.root.now × IsEntry plant.last.now p
+        × Valid plant.last.now (map (λ x. x.now) lists.now) positions.old × (counts.old.moves ≤ budget) × (counts.old.passed ≤ most_passed) }
+    ensures { Turns plant.entry.last.now plant.entry.root.now (map (λ x. x.now) lists.now) required p budget positions.old positions.new counts.old counts.new result }
 {
-    let mut moves = made;
-    let mut passed = skipped;
-    let mut to = end - 1;
-    let mut i = 0;
-    while i < lists.len() {
-        let list = lists[i];
-        let from = positions[i];
-        let brought = bring(last, root, list, from, p, end, budget, moves, passed);
-        let at = brought.at;
-        positions[i] = at;
-        moves = brought.moves;
-        passed = brought.passed;
-        if brought.spent {
-            return round_of(moves, passed, p, false, true);
-        }
+    let mut to = plant.last.len();
+    for (i, &list) in lists.iter().enumerate() {
+        let rest = bring(plant, list, &mut positions[i], p, budget, counts)?;
         let asked = i < required;
-        if brought.carries != asked {
-            return round_of(moves, passed, brought.to, false, false);
+        if rest.carries != asked {
+            return Some(Round::Again(rest.to + 1));
         }
-        to = least_u32(brought.to, to);
-        i += 1;
+        to = to.min(rest.to);
     }
-    round_of(moves, passed, to, true, false)
+    Some(Round::Accepts(to))
 }
 
-// Whether the level code of device d is one that a query wants.
-fn wanted(level: &[u8], levels: Levels, d: u32) -> bool
-    requires { IsEntry level.now d }
-    ensures { result ≡ wants levels (entry level.now d) }
-{
-    let i = (d - 1) as usize;
-    wants(levels, level[i] as u32)
-}
-
-// Writes device d after the first `count` entries, where it is listed. Else no entry changes.
-fn put(out: &mut [u16], count: u32, d: u32, listed: bool)
-    requires { (count < length out.old) × (d ≤ most_devices) × (count < most_devices) }
-    ensures { out.new ≡ cond listed (set out.old count d) out.old }
-{
-    if listed {
-        let i = count as usize;
-        out[i] = d as u16;
-    }
-}
-
-// One more, where there is another.
-fn more(count: u32, another: bool) -> u32
-    requires { count < most_devices }
-    ensures { result ≡ cond another (count + 1) count }
-{
-    if another { count + 1 } else { count }
-}
-
-// Writes the devices from `from` to `to` whose level codes a query wants, after the first `count` entries, where their positions are accepted.
+// Writes the devices from `from` to `to` whose level codes a query wants, after the first `count` entries. Returns how many entries are written.
 fn list(
     level: &[u8],
     levels: Levels,
-    from: u32,
-    to: u32,
-    accepted: bool,
+    from: usize,
+    to: usize,
     out: &mut [u16],
-    count: u32,
-) -> u32
+    count: usize,
+) -> usize
     requires { (count < from) × (from ≤ to) × (to ≤ length level.now) × (length level.now ≤ length out.old) × (length level.now ≤ most_devices) }
-    ensures { Writes accepted (λ d. wants levels (entry level.now d)) from to out.old out.new count result }
+    ensures { Writes (λ d. wants levels (entry level.now d)) from to out.old out.new count result }
 {
-    if accepted {
-        let mut d = from;
-        let mut n = count;
-        while d <= to {
-            let listed = wanted(level, levels, d);
-            put(out, n, d, listed);
-            n = more(n, listed);
-            d += 1;
+    let mut n = count;
+    for d in from..=to {
+        if wants(levels, u32::from(level[d - 1])) {
+            out[n] = d as u16;
+            n += 1;
         }
-        return n;
     }
-    count
+    n
 }
 
-// How many devices a run listed, how far it came, how many postings its moves passed over, and the moves made.
-#[derive(Clone, Copy)]
-pub struct Listing {
-    pub count: u32,
-    pub position: u32,
-    pub passed: u32,
-    pub moves: u32,
-}
-
-fn listing_of(count: u32, position: u32, passed: usize, moves: usize) -> Listing
-    requires { (passed ≤ largest_number) × (moves ≤ largest_number) }
-    ensures { result ≡ record { count = count; position = position; passed = passed; moves = moves } }
-{
-    Listing {
-        count,
-        position,
-        passed: passed as u32,
-        moves: moves as u32,
-    }
-}
-
-// The run from position `start` up to `end`, each cursor on the first posting of its list. The first `required` lists are those of required
-// terms.
+// The run of a query over its lists, from its start on, each cursor on the first posting of its list. The first `required` lists are those of
+// required terms.
 pub fn run(
-    last: &[u16],
-    root: &[u16],
-    level: &[u8],
+    plant: DeviceTables,
     lists: &[&[u32]],
     required: usize,
-    levels: Levels,
-    start: u32,
-    end: u32,
-    budget: u32,
+    query: Query,
     out: &mut [u16],
-) -> Listing
-    requires tables { Tables last.now root.now × (length level.now ≡ length last.now) × (length last.now ≤ length out.old)
-        × (1 ≤ start) × (1 ≤ end) × (end ≤ length last.now + 1) }
-    requires lists { Lists last.now (map (λ x. x.now) lists.now) }
-    ensures { RunGives
-        (run last.now root.now end (λ d. wants levels (entry level.now d)) end budget start
+) -> Answer
+    requires tables { Tables plant.last.now plant.root.now × (length plant.level.now ≡ length plant.last.now)
+        × (length plant.last.now ≤ length out.old) × (1 ≤ query.start) × (query.start ≤ length plant.last.now + 1) }
+    requires lists { Lists plant.last.now (map (λ x. x.now) lists.now) }
+    ensures { let end = length plant.entry.last.now + 1 in RunGives
+        (run plant.entry.last.now plant.entry.root.now end (λ d. wants query.levels (entry plant.entry.level.now d)) end query.budget query.start
         (begin required (map (λ x. x.now) lists.now)))
         out.old out.new result }
 {
+    let end = plant.last.len() + 1;
     let mut positions = [0; 16];
-    let mut position = start;
-    let mut passed = 0;
-    let mut moves = 0;
+    let mut counts = Counts {
+        moves: 0,
+        passed: 0,
+    };
+    let mut position = query.start as usize;
     let mut count = 0;
+    // A round jumps past all that it settles.
     while position < end {
-        let round = pass(
-            last,
-            root,
+        match pass(
+            plant,
             lists,
             required,
             &mut positions,
             position,
-            end,
-            budget,
-            moves,
-            passed,
-        );
-        passed = round.passed;
-        moves = round.moves;
-        if round.stop {
-            return listing_of(count, position, passed, moves);
+            query.budget,
+            &mut counts,
+        ) {
+            Some(Round::Accepts(to)) => {
+                count = list(plant.level, query.levels, position, to, out, count);
+                position = to + 1;
+            }
+            Some(Round::Again(next)) => position = next,
+            None => break,
         }
-        count = list(
-            level,
-            levels,
-            position,
-            round.to,
-            round.accepted,
-            out,
-            count,
-        );
-        position = round.to + 1;
     }
-    listing_of(count, end, passed, moves)
+    Answer {
+        count: count as u32,
+        position: position as u32,
+        passed: counts.passed,
+        moves: counts.moves,
+    }
 }

@@ -4,18 +4,19 @@ use mathlib.Core.Path.{◌≡◌, refl, sym, ap, ◌∙◌}
 use mathlib.Core.Bool.{Bool, true, false, cond, not, true≢false}
 use mathlib.Core.List.{List, [], ◌∷◌}
 use mathlib.Core.Option.{Option, none, some}
-use lib.Dec.{leb}
-use lib.ListN.{length, get_or, drop, get_or-eq_default}
+use lib.ListN.{length, get_or, take, drop, length-drop, get_or-eq_default}
 use lib.Seq.{drop-cons}
 use native.Mathlib.Numerals.{add-one}
 use native.Mathlib.Omega.{arith}
 use borrow.Author.Tests.{le-leb, lt-leb, ne_eqb}
 use Rattle.laws.specs.Front.{until}
-use Rattle.laws.proofs.Cases.{either, by_order, split_cond}
+use Rattle.laws.proofs.Cases.{either, by_order}
 use Rattle.laws.proofs.Front.{until_within, until_here, until_next, until_end}
 use Rattle.text.specs.Decimal.{digit, decimal, number, digits, front, up_to, known_number, number_at}
+use Rattle.std.proofs.lemmas.List.{get_or-drop}
 use Rattle.text.specs.inner.Parts.{zero_at}
 use Rattle.text.specs.declared.NumberAt.{NumberAt}
+use Rattle.text.proofs.Lines.{drop_take}
 
 -- What is the same for all numbers above the limit does not tell a number from its cap.
 pub by_cap : {A : Type 0} (g : ℕ → A) (limit n : ℕ) → (limit < n → g (up_to limit n) ≡ g n) → g (up_to limit n) ≡ g n
@@ -46,12 +47,6 @@ digit_below b h = rw (lt-leb 48 b h)
 pub digit_above : (b : ℕ) → 57 < b → digit b ≡ false
 digit_above b h = let l : 48 ≤ b = omega arith in rw (le-leb 48 b l, lt-leb b 57 h)
 
-pub digit_low : (b : ℕ) → b < 48 → false ≡ digit b
-digit_low b h = sym (digit_below b h)
-
-pub digit_rest : (b : ℕ) → 48 ≤ b → leb b 57 ≡ digit b
-digit_rest b h = rw (le-leb 48 b h)
-
 pub digit_is : (b : ℕ) → 48 ≤ b → b ≤ 57 → digit b ≡ true
 digit_is b h k = rw (le-leb 48 b h, le-leb b 57 k)
 
@@ -72,9 +67,6 @@ digits_within = until_within (λ b. not (digit b))
 module _ (t : List ℕ) (at : ℕ) where
   no_byte : length t ≤ at → digit (get_or t at 0) ≡ false
   no_byte h = rw (get_or-eq_default t 0 {n = at} h) (digit_below 0 (omega arith))
-
-  pub digit_past : length t ≤ at → false ≡ digit (get_or t at 0)
-  digit_past h = sym (no_byte h)
 
   pub digits_none : digit (get_or t at 0) ≡ false → digits (drop at t) ≡ 0
   digits_none e =
@@ -119,11 +111,11 @@ module _ (limit : ℕ) (t : List ℕ) (at : ℕ) where
     missing : digit (get_or t at 0) ≡ false → record { value = 0; end = at } ≡ number_at limit t at
     missing e = ap (λ (n : ℕ). record { value = 0; end = n }) within ∙ none_is (no_digit e)
 
-    pub none_low : get_or t at 0 < 48 → record { value = 0; end = at } ≡ number_at limit t at
-    none_low l = missing (digit_below (get_or t at 0) l)
+    pub none_low : {b : ℕ} → b ≡ get_or t at 0 → b < 48 → record { value = 0; end = at } ≡ number_at limit t at
+    none_low e l = missing (rw (← e) (digit_below _ l))
 
-    pub none_high : 57 < get_or t at 0 → record { value = 0; end = at } ≡ number_at limit t at
-    none_high l = missing (digit_above (get_or t at 0) l)
+    pub none_high : {b : ℕ} → b ≡ get_or t at 0 → 57 < b → record { value = 0; end = at } ≡ number_at limit t at
+    none_high e l = missing (rw (← e) (digit_above _ l))
 
     zero_more : front (drop at t) ≡ 48 ∷ front (drop (at + 1) t) → digit (get_or t (at + 1) 0) ≡ true → zero_at t at ≡ number_at limit t at
     unfolding number
@@ -144,36 +136,24 @@ module _ (limit : ℕ) (t : List ℕ) (at : ℕ) where
         let l : front (drop at t) ≡ 48 ∷ front (drop (at + 1) t) = front_more t at h d ∙ rw e in
         q ∙ either (digit (get_or t (at + 1) 0)) (λ g. zero_more l g) (λ g. zero_alone l (digits_more t at h d) g)
 
--- the byte after a 0 is a digit, or it is not
-module _ (t : List ℕ) (at : ℕ) {b : Bool} (e : b ≡ digit (get_or t (at + 1) 0)) where
-  pub zero_no : b ≡ true → record { value = 0; end = at } ≡ zero_at t at
-  zero_no h = rw (← e, h)
-
-  pub zero_yes : b ≡ false → record { value = 0; end = at + 1 } ≡ zero_at t at
-  zero_yes h = rw (← e, h)
-
-pub zero_within : (t : List ℕ) (at : ℕ) {r : NumberAt} → at < length t → r ≡ zero_at t at → r.end ≤ length t
-zero_within t at {r} h e =
-    rw e (split_cond (λ n. n ≤ length t) (digit (get_or t (at + 1) 0)) (λ q. omega arith) (λ q. omega arith))
-
 -- n is what the digits from at up to i make, up to the limit
 pub record Counted (limit : ℕ) (t : List ℕ) (at n i : ℕ) : Type 0 where
-  pub onward : at < i
+  pub onward : at ≤ i
   pub within : i ≤ length t
   pub small : n ≤ limit + 1
   pub far : at + digits (drop at t) ≡ i + digits (drop i t)
   pub value : capped limit (number (front (drop at t))) ≡ capped limit (decimal n (front (drop i t)))
 
 module _ {limit : ℕ} {t : List ℕ} {at : ℕ} where
-  pub count_first : {n : ℕ} → at < length t → 48 ≤ get_or t at 0 → get_or t at 0 ≤ 57 → (get_or t at 0 ≡ 48 → ⊥) → n ≡ up_to limit (0 * 10 + (get_or t at 0 - 48)) → Counted limit t at n (at + 1)
-  count_first {n} h a b z e =
-      let d = digit_is (get_or t at 0) a b in
+  pub count_first : at < length t → 49 ≤ get_or t at 0 → get_or t at 0 ≤ 57 → Counted limit t at 0 at
+  count_first h a b =
+      let d = digit_is (get_or t at 0) (omega arith) b in
       record {
         onward = omega arith;
         within = omega arith;
         small = omega arith;
-        far = omega (arith, digits_more t at h d);
-        value = rw (front_more t at h d, number_first (get_or t at 0) (front (drop (at + 1) t)) z) (decimal_more limit 0 (get_or t at 0) n (front (drop (at + 1) t)) d e);
+        far = refl;
+        value = rw (front_more t at h d, number_first (get_or t at 0) (front (drop (at + 1) t)) (λ z. omega arith));
       }
 
   module _ {n i : ℕ} (s : Counted limit t at n i) where
@@ -188,7 +168,7 @@ module _ {limit : ℕ} {t : List ℕ} {at : ℕ} where
           value = s.value ∙ rw (front_more t i h d) (decimal_more limit n (get_or t i 0) m (front (drop (i + 1) t)) d e);
         }
 
-    stop : digit (get_or t i 0) ≡ false → record { value = n; end = i } ≡ number_at limit t at
+    pub stop : digit (get_or t i 0) ≡ false → record { value = n; end = i } ≡ number_at limit t at
     unfolding decimal
     stop e =
         let k : i ≡ min at (length t) + digits (drop at t) = omega (arith, s.far, s.onward, s.within, digits_none t i e) in
@@ -200,11 +180,16 @@ module _ {limit : ℕ} {t : List ℕ} {at : ℕ} where
         go none v k = cc
         go (some j) v k = cc (v, k)
 
-    pub stop_low : i < length t → get_or t i 0 < 48 → record { value = n; end = i } ≡ number_at limit t at
-    stop_low h l = stop (digit_below (get_or t i 0) l)
+    pub stop_end : length t ≤ i → record { value = n; end = length t } ≡ number_at limit t at
+    stop_end h = let e : length t ≡ i = omega (arith, s.within) in ap (λ (k : ℕ). record { value = n; end = k }) e ∙ stop (no_byte t i h)
 
-    pub stop_high : i < length t → 57 < get_or t i 0 → record { value = n; end = i } ≡ number_at limit t at
-    stop_high h l = stop (digit_above (get_or t i 0) l)
+-- the byte of the text at an index of what is left of it, as the code goes over that
+module _ (t : List ℕ) (at i : ℕ) where
+  pub tail_byte : get_or (take (length t - at) (drop at t)) i 0 ≡ get_or t (at + i) 0
+  tail_byte = rw (drop_take at t) (get_or-drop at t i 0)
 
-    pub stop_end : length t ≤ i → record { value = n; end = i } ≡ number_at limit t at
-    stop_end h = stop (no_byte t i h)
+  pub tail_within : i < length (take (length t - at) (drop at t)) → at + i < length t
+  tail_within h = omega (arith, rw (drop_take at t, length-drop at t) at h)
+
+  pub tail_end : length (take (length t - at) (drop at t)) ≤ i → length t ≤ at + i
+  tail_end h = omega (arith, rw (drop_take at t, length-drop at t) at h)

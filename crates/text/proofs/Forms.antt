@@ -1,5 +1,5 @@
 -- The form of a line, its numbers known up to a limit: the cap goes through each row of a table.
-use Prim.Native.Nat.{ℕ, ◌+◌, ◌-◌, ◌<◌, ◌≤◌, min}
+use Prim.Native.Nat.{ℕ, ◌+◌, ◌-◌, min}
 use mathlib.Core.Path.{◌≡◌, refl, sym, ap, ◌∙◌}
 use mathlib.Core.Bool.{Bool, true, false, cond, not, ◌&&◌}
 use mathlib.Core.List.{List, [], ◌∷◌, ◌++◌}
@@ -9,11 +9,12 @@ use borrow.Author.Tests.{eq-eqb, ne_eqb}
 use Rattle.laws.proofs.Tests.{and_yes, not_yes}
 use native.Mathlib.Omega.{arith}
 use Rattle.laws.proofs.Cases.{either}
-use Rattle.text.specs.Lines.{bytes_before, line_at, whole_at, next_at}
+use Rattle.text.specs.Lines.{line_at, whole_at, next_at}
 use Rattle.text.specs.Decimal.{up_to}
 use Rattle.text.specs.Patterns.{fit, capped_fit}
 use Rattle.text.specs.Forms.{Row, unfinished, other, plain, fitted, form, row_after}
 use Rattle.text.specs.inner.Finding.{capped_form, form_at, found_at}
+use Rattle.std.specs.Prelude.{Option, Some, None, position}
 use Rattle.text.specs.declared.Fit.{Fit}
 use Rattle.text.specs.declared.Form.{Form}
 use Rattle.text.specs.declared.Found.{Found}
@@ -21,6 +22,16 @@ use Rattle.text.proofs.Lines.{whole_there, tail_there}
 
 pub capped_plain : (limit k : ℕ) → capped_form limit (plain k) ≡ plain k
 capped_plain limit k = let z : up_to limit 0 ≡ 0 = omega arith in rw z
+
+-- a line fits, or it does not: for any goal, and for a goal of the form of a line that fits
+pub by_fit {ℓ} : {X : Type ℓ} (o : Option Fit) → ((f : Fit) → o ≡ Some f → X) → (o ≡ None → X) → X
+by_fit None y n = n refl
+by_fit (Some f) y n = y f refl
+
+pub split_fitted {ℓ} : (F : Form → Type ℓ) (kind : ℕ) (o : Option Fit) {rest : Form} →
+    ((f : Fit) → o ≡ Some f → F (record { kind = kind; before = f.before; number = f.number })) → (o ≡ None → F rest) → F (fitted kind o rest)
+split_fitted F kind None y n = n refl
+split_fitted F kind (Some f) y n = y f refl
 
 -- the form of a line by the rows of a table, one asked after the other, from a form on
 unfoldable pub asked : ℕ → List Row → List ℕ → Form → Form
@@ -47,12 +58,12 @@ module _ (limit : ℕ) (l : List ℕ) where
   asked_stays (r ∷ rs) f e = rw (row_stays r.kind r.pattern f e) (asked_stays rs f e)
 
   module _ (r : Row) where
-    first_fits : (fit r.pattern l).fits ≡ true → row_after limit r.kind r.pattern l (plain other)
-        ≡ record { kind = r.kind; before = up_to limit (fit r.pattern l).before; number = up_to limit (fit r.pattern l).number }
+    first_fits : {f : Fit} → fit r.pattern l ≡ Some f → row_after limit r.kind r.pattern l (plain other)
+        ≡ record { kind = r.kind; before = up_to limit f.before; number = up_to limit f.number }
     unfolding row_after
     first_fits y = rw y
 
-    first_not : (fit r.pattern l).fits ≡ false → row_after limit r.kind r.pattern l (plain other) ≡ plain other
+    first_not : fit r.pattern l ≡ None → row_after limit r.kind r.pattern l (plain other) ≡ plain other
     unfolding row_after
     first_not y = rw y
 
@@ -62,8 +73,8 @@ module _ (limit : ℕ) (l : List ℕ) where
   asked_all [] o = sym (capped_plain limit other)
   asked_all (r ∷ rs) o =
       let p = (and_yes (not (eqb r.kind other)) (own_kinds rs)).0 o in
-      either (fit r.pattern l).fits
-      (λ y. rw (first_fits r y, y) (asked_stays rs (record { kind = r.kind; before = up_to limit (fit r.pattern l).before; number = up_to limit (fit r.pattern l).number }) ((not_yes (eqb r.kind other)).0 p.0)))
+      by_fit (fit r.pattern l)
+      (λ f y. rw (first_fits r y, y) (asked_stays rs (record { kind = r.kind; before = up_to limit f.before; number = up_to limit f.number }) ((not_yes (eqb r.kind other)).0 p.0)))
       (λ y. rw (first_not r y, y) (asked_all rs p.1))
 
   -- one row more
@@ -96,13 +107,14 @@ module _ (limit : ℕ) (rows : List Row) (t : List ℕ) (at : ℕ) where
 pub whole_kind : (rows : List Row) (t : List ℕ) (at : ℕ) → ((form_at rows t at).kind ≡ unfinished → ⊥) → whole_at t at ≡ true
 whole_kind rows t at h = either (whole_at t at) (λ w. w) (λ w. absurd (h (rw w)))
 
--- the line at an index as the code finds it: from and end are where it ends
-module _ (t : List ℕ) (at : ℕ) (f : Form) {from end : ℕ} (e : from ≡ min at (length t)) (q : end ≡ bytes_before 10 (take (length t - from) (drop from t))) where
-  pub ends_whole : from + end < length t → (f ≡ cond (whole_at t at) f (plain unfinished)) × (from + end + 1 ≡ next_at t at)
-  ends_whole h = let w = whole_there t at e q h in (rw w.0, w.1)
+-- the line at an index as the code finds it, by the first line feed from `from` on
+module _ (t : List ℕ) (at : ℕ) (f : Form) {from : ℕ} (e : from ≡ min at (length t)) where
+  pub ends_whole : {n : ℕ} → position (λ x. eqb x 10) (take (length t - from) (drop from t)) ≡ Some n
+      → (f ≡ cond (whole_at t at) f (plain unfinished)) × (from + n + 1 ≡ next_at t at)
+  ends_whole h = let w = whole_there t at e h in (rw w.0, w.1)
 
-  pub ends_tail : length t ≤ from + end → (plain unfinished ≡ cond (whole_at t at) f (plain unfinished)) × (length t ≡ next_at t at)
-  ends_tail h = let w = tail_there t at e q h in (rw w.0, w.1)
+  pub ends_tail : position (λ x. eqb x 10) (take (length t - from) (drop from t)) ≡ None → (plain unfinished ≡ cond (whole_at t at) f (plain unfinished)) × (length t ≡ next_at t at)
+  ends_tail h = let w = tail_there t at e h in (rw w.0, w.1)
 
 -- a row, as the code asks it
 module _ (limit kind : ℕ) (ps l : List ℕ) (form : Form) where
@@ -110,13 +122,7 @@ module _ (limit kind : ℕ) (ps l : List ℕ) (form : Form) where
   unfolding row_after
   row_known h = rw (ne_eqb form.kind other h)
 
-  module _ (h : form.kind ≡ other) {f : Fit} (e : f ≡ capped_fit limit (fit ps l)) where
-    asks : row_after limit kind ps l form ≡ fitted kind f form
+  module _ (h : form.kind ≡ other) where
+    pub asks : {o : Option Fit} → o ≡ capped_fit limit (fit ps l) → fitted kind o form ≡ row_after limit kind ps l form
     unfolding row_after
-    asks = rw (eq-eqb form.kind other h) (ap (λ (x : Fit). fitted kind x form) (sym e))
-
-    pub row_fits : f.fits ≡ true → record { kind = kind; before = f.before; number = f.number } ≡ row_after limit kind ps l form
-    row_fits y = sym (asks ∙ rw y)
-
-    pub row_not : f.fits ≡ false → form ≡ row_after limit kind ps l form
-    row_not y = sym (asks ∙ rw y)
+    asks e = rw (eq-eqb form.kind other h, e)

@@ -21,14 +21,16 @@ use Rattle.text.specs.declared.Form.{Form}
 use Rattle.text.specs.declared.NumberAt.{NumberAt}
 use Rattle.text.proofs.Lines.{line_cons, line_nil}
 use Rattle.text.specs.declared.Scan.{Scan}
-use Rattle.text.specs.inner.Parts.{Past}
+use Rattle.std.specs.Prelude.{Option, Some, None}
+use Rattle.std.proofs.lemmas.Option.{same_Some}
+use Rattle.text.specs.inner.Parts.{Goes}
 use Rattle.text.proofs.Decimal.{digits_within}
 use Rattle.text.proofs.Patterns.{line_behind, line_digits, number_end, past_found}
 use Rattle.text.proofs.Forms.{capped_plain}
 
 -- a line from an index on, without numbers yet
 abbrev scan_at : ℕ → Scan
-scan_at at = record { fits = true; before = 0; number = 0; at = at }
+scan_at at = record { before = 0; number = 0; at = at }
 
 -- a word that goes on in the text, byte by byte
 pub begins_there : (t : List ℕ) (at w : ℕ) (ws : List ℕ) → begins (w ∷ ws) (drop at t) ≡ true
@@ -95,7 +97,7 @@ module _ (limit : ℕ) (t : List ℕ) (at : ℕ) (w ending : List ℕ) (lw : lit
   whole_line : line_at t at ≡ w ++ line_at t (at + length w)
   whole_line = line_word w t at lw bw
 
-  past : Past limit t any_number (scan_at (at + length w)) (record { fits = true; before = 0; number = r.value; at = r.end })
+  past : Goes limit t any_number (scan_at (at + length w)) (record { before = 0; number = r.value; at = r.end })
   past = past_found limit t (scan_at (at + length w)) (record { within = fits; low = omega arith; lower = omega arith }) e there
 
   pub known_fit : capped_fit limit (fit (w ++ (any_number ∷ ending)) (line_at t at)) ≡ fitting 0 r.value
@@ -103,7 +105,7 @@ module _ (limit : ℕ) (t : List ℕ) (at : ℕ) (w ending : List ℕ) (lw : lit
       let z : up_to limit 0 ≡ 0 = omega arith in
       let v : up_to limit r.value ≡ r.value = omega (arith, past.on.lower) in
       ap (capped_fit limit) (ap (fit (w ++ (any_number ∷ ending))) whole_line ∙ fit_word w (any_number ∷ ending) (line_at t (at + length w)) 0 0 lw)
-      ∙ past.goes_on refl ending
+      ∙ past.goes_on ending
       ∙ rw ((line_ending ending t r.end le be).0, fit_ending ending 0 r.value le, z, v)
 
   pub known_next : (whole_at t at ≡ true) × (next_at t at ≡ r.end + length ending + 1)
@@ -122,14 +124,15 @@ module _ (limit : ℕ) (t : List ℕ) (at : ℕ) (w ending : List ℕ) (lw : lit
       (whole, rw whole (omega arith))
 
 -- and so its form is that of the row of its pattern, where no row before it fits
-pub known_found : (limit : ℕ) (rows : List Row) (t : List ℕ) (at kind n next : ℕ) (f : Fit) (rest : Form) → form rows (line_at t at) ≡ fitted kind f rest
+pub known_found : (limit : ℕ) (rows : List Row) (t : List ℕ) (at kind n next : ℕ) (f : Option Fit) (rest : Form) → form rows (line_at t at) ≡ fitted kind f rest
     → capped_fit limit f ≡ fitting 0 n → whole_at t at ≡ true → next_at t at ≡ next
     → record { form = record { kind = kind; before = 0; number = n }; next = next } ≡ found_at limit rows t at
-known_found limit rows t at kind n next f rest e c w x =
-    let y : f.fits ≡ true = ap (λ (g : Fit). g.fits) c in
-    let a : up_to limit f.before ≡ 0 = ap (λ (g : Fit). g.before) c in
-    let b : up_to limit f.number ≡ n = ap (λ (g : Fit). g.number) c in
-    rw (← x, w, e, y, a, b)
+known_found limit rows t at kind n next None rest e c w x = absurd cc
+known_found limit rows t at kind n next (Some f) rest e c w x =
+    let g : record { before = up_to limit f.before; number = up_to limit f.number } ≡ record { before = 0; number = n } = same_Some _ _ c in
+    let a : up_to limit f.before ≡ 0 = ap (λ (g : Fit). g.before) g in
+    let b : up_to limit f.number ≡ n = ap (λ (g : Fit). g.number) g in
+    rw (← x, w, e, a, b)
 
 -- a line that is a word alone
 pub known_alone : (limit : ℕ) (rows : List Row) (t : List ℕ) (at kind : ℕ) (w : List ℕ) → literal w ≡ true → begins (w ++ (10 ∷ [])) (drop at t) ≡ true

@@ -1,7 +1,7 @@
 -- The bytes before a byte, and the line at an index of a text.
 use Prim.Native.Nat.{ℕ, suc, ◌+◌, ◌-◌, ◌<◌, ◌≤◌, min}
 use mathlib.Core.Path.{◌≡◌, refl, sym, ap, ◌∙◌}
-use mathlib.Core.Bool.{Bool, true, false, ◌&&◌, true≢false}
+use mathlib.Core.Bool.{Bool, true, false, not, ◌&&◌, true≢false}
 use mathlib.Core.List.{List, [], ◌∷◌}
 use lib.Dec.{eqb}
 use lib.ListN.{length, get_or, take, drop, length-take, length-drop, drop_of_length-le}
@@ -9,10 +9,14 @@ use lib.Seq.{take_all, drop-drop, drop-cons}
 use native.Mathlib.Numerals.{add-one}
 use native.Mathlib.Omega.{arith}
 use borrow.Author.Tests.{lt-ltb, le-ltb, eq-eqb, ne_eqb, eqb-true, eqb-false}
+use Rattle.std.specs.Prelude.{Some, None, nat_lt, position}
+use Rattle.std.specs.List.{starts_with, position_or_len}
+use Rattle.std.proofs.lemmas.List.Recursion.{is_position_or_len}
+use Rattle.std.proofs.lemmas.Option.{cond_some, none-some}
 use Rattle.laws.specs.Front.{until}
 use Rattle.laws.proofs.Tests.{flags}
 use Rattle.laws.proofs.Cases.{either, by_order, split_cond}
-use Rattle.laws.proofs.Front.{until_within, until_here, until_next, until_end}
+use Rattle.laws.proofs.Front.{until_within, until_here, until_next}
 use Rattle.laws.proofs.Lists.{drop_clamped}
 use Rattle.text.specs.Lines.{lines, begins, bytes_before, line_at, whole_at, next_at}
 
@@ -26,24 +30,21 @@ module _ (b x : ℕ) (xs : List ℕ) where
   unfolding until
   before_more e = rw (e, until)
 
--- none of the first i bytes of s is b
-pub record Passed (b : ℕ) (s : List ℕ) (i : ℕ) : Type 0 where
-  pub within : i ≤ length s
-  pub known : bytes_before b s ≡ i + bytes_before b (drop i s)
+-- the index of the first byte b is how many stand before it
+before_position : (b : ℕ) (s : List ℕ) → bytes_before b s ≡ position_or_len (λ x. eqb x b) s
+unfolding until
+before_position b =
+    is_position_or_len (bytes_before b) (λ x. eqb x b) refl
+    (λ x xs. either (eqb x b) (λ e. rw (e, before_found b x xs e)) (λ e. rw (e, before_more b x xs e) (omega arith)))
 
-pub passed_none : (b : ℕ) (s : List ℕ) → Passed b s 0
-passed_none b s = record { within = omega arith; known = omega arith }
+module _ (b : ℕ) (s : List ℕ) where
+  position_found : {n : ℕ} → position (λ x. eqb x b) s ≡ Some n → (n ≡ bytes_before b s) × (n < length s)
+  position_found e = let q = before_position b s in let c = cond_some _ _ _ e in (sym (q ∙ c.1), omega (flags, c.0, c.1))
 
-module _ {b : ℕ} {s : List ℕ} {i : ℕ} (p : Passed b s i) where
-  pub passed_found : i < length s → get_or s i 0 ≡ b → i ≡ bytes_before b s
-  passed_found h e = omega (arith, p.known, until_here (λ x. eqb x b) s i h (eq-eqb (get_or s i 0) b e))
-
-  pub passed_more : i < length s → (get_or s i 0 ≡ b → ⊥) → Passed b s (i + 1)
-  passed_more h e =
-      record { within = omega arith; known = omega (arith, p.known, until_next (λ x. eqb x b) s i h (ne_eqb (get_or s i 0) b e)) }
-
-  pub passed_all : length s ≤ i → i ≡ bytes_before b s
-  passed_all h = omega (arith, p.known, until_end (λ x. eqb x b) s i h)
+  position_none : position (λ x. eqb x b) s ≡ None → length s ≤ bytes_before b s
+  position_none e =
+      let q = before_position b s in
+      either (nat_lt (position_or_len (λ x. eqb x b) s) (length s)) (λ y. absurd (none-some _ (sym (rw y at e)))) (λ y. omega (flags, y))
 
 pub before_within : (b : ℕ) (s : List ℕ) → bytes_before b s ≤ length s
 before_within b = until_within (λ x. eqb x b)
@@ -82,6 +83,9 @@ module _ (t : List ℕ) (at : ℕ) where
   pub line_nil : at < length t → get_or t at 0 ≡ 10 → line_at t at ≡ []
   line_nil h e = rw (until_here (λ x. eqb x 10) t at h (eq-eqb (get_or t at 0) 10 e))
 
+eqb_sym : (a b : ℕ) → eqb a b ≡ eqb b a
+eqb_sym a b = either (eqb b a) (λ e. rw e (eq-eqb a b (sym (eqb-true b a e)))) (λ e. rw e (ne_eqb a b (λ q. eqb-false b a e (sym q))))
+
 -- whether it goes on with a byte, and whether it ends, as the code finds it
 module _ (t : List ℕ) (at : ℕ) where
   pub byte_none : (b : ℕ) → length t ≤ at → false ≡ begins (b ∷ []) (line_at t at)
@@ -96,6 +100,14 @@ module _ (t : List ℕ) (at : ℕ) where
   unfolding begins
   byte_is b h e = rw (line_cons t at h e) (either (eqb b (get_or t at 0)) (λ q. rw q) (λ q. rw q))
 
+  -- by the byte c that the code reads there
+  module _ (b : ℕ) {c : ℕ} (h : at < length t) (k : c ≡ get_or t at 0) where
+    pub byte_same : (c ≡ 10 → ⊥) → eqb c b ≡ begins (b ∷ []) (line_at t at)
+    byte_same e = eqb_sym c b ∙ ap (eqb b) k ∙ byte_is b h (λ q. e (k ∙ q))
+
+    pub byte_ends : c ≡ 10 → not (eqb c 10) ≡ begins (b ∷ []) (line_at t at)
+    byte_ends e = rw e (byte_feed b h (sym k ∙ e))
+
   pub byte_there : (b : ℕ) → begins (b ∷ []) (line_at t at) ≡ true → (at < length t) × (line_at t at ≡ b ∷ line_at t (at + 1))
   unfolding begins
   byte_there b e =
@@ -107,26 +119,20 @@ module _ (t : List ℕ) (at : ℕ) where
       (h, l ∙ rw (← z))))
       (λ h. absurd (true≢false (sym e ∙ sym (byte_none b h))))
 
-  pub end_none : length t ≤ at → true ≡ eqb (length (line_at t at)) 0
-  end_none h = rw (line_none t at h)
-
   pub end_is : at < length t → eqb (get_or t at 0) 10 ≡ eqb (length (line_at t at)) 0
   end_is h =
       either (eqb (get_or t at 0) 10) (λ q. rw (q, line_nil t at h (eqb-true (get_or t at 0) 10 q)))
       (λ q. rw (q, line_cons t at h (eqb-false (get_or t at 0) 10 q), ne_eqb (suc (length (line_at t (at + 1)))) 0 (omega arith)))
 
--- a word from an index on, as the code finds it
-module _ (w t : List ℕ) (at : ℕ) where
-  pub begins_past : length t ≤ at → eqb (length w) 0 ≡ begins w (drop at t)
-  unfolding begins
-  begins_past h = rw (drop_of_length-le t {i = at} h) (go w)
-    where
-      go : (w : List ℕ) → eqb (length w) 0 ≡ begins w []
-      go [] = refl
-      go (x ∷ xs) = ne_eqb (suc (length xs)) 0 (omega arith)
+-- a word at the front of a list, and from an index on, as the code finds it
+begins_is : (w s : List ℕ) → starts_with eqb s w ≡ begins w s
+unfolding begins
+begins_is [] s = refl
+begins_is (w ∷ ws) [] = refl
+begins_is (w ∷ ws) (b ∷ bs) = ap (λ x. eqb w b && x) (begins_is ws bs)
 
-  pub begins_from : {b : Bool} → b ≡ begins w (take (length t - at) (drop at t)) → b ≡ begins w (drop at t)
-  begins_from q = q ∙ rw (drop_take at t)
+pub begins_from : (w t : List ℕ) (at : ℕ) {from : ℕ} {b : Bool} → from ≡ min at (length t) → b ≡ starts_with eqb (take (length t - from) (drop from t)) w → b ≡ begins w (drop at t)
+begins_from w t at {from} e q = let d : drop from t ≡ drop at t = rw (e, drop_clamped at t) in q ∙ begins_is w _ ∙ rw (drop_take from t, d)
 
 -- where the next line begins
 module _ (t : List ℕ) (at : ℕ) where
@@ -139,25 +145,23 @@ module _ (t : List ℕ) (at : ℕ) where
   pub next_from : at ≤ length t → at ≤ next_at t at
   next_from h = split_cond (λ n. at ≤ n) (whole_at t at) (λ e. omega arith) (λ e. h)
 
-  -- from and end are where the code finds the line
-  module _ {from end : ℕ} (e : from ≡ min at (length t)) (q : end ≡ bytes_before 10 (take (length t - from) (drop from t))) where
-    ends : (end ≡ length (line_at t at)) × (from + end ≤ length t)
-    ends =
-        let d : drop from t ≡ drop at t = rw (e, drop_clamped at t) in
-        let f : end ≡ bytes_before 10 (drop at t) = q ∙ rw (drop_take from t, d) in
-        (f ∙ sym (length_line t at), omega (arith, before_within 10 (drop at t), length-drop at t))
+  -- the first line feed from `from` on, as the code finds it
+  module _ {from : ℕ} (e : from ≡ min at (length t)) where
+    here : take (length t - from) (drop from t) ≡ drop at t
+    here = drop_take from t ∙ rw (e, drop_clamped at t)
 
-    pub ends_within : from + end ≤ length t
-    ends_within = ends.1
+    pub whole_there : {n : ℕ} → position (λ x. eqb x 10) (take (length t - from) (drop from t)) ≡ Some n → (whole_at t at ≡ true) × (from + n + 1 ≡ next_at t at)
+    whole_there {n} q =
+        let p = position_found 10 (drop at t) (rw here at q) in
+        let l = length_line t at in
+        let w : whole_at t at ≡ true = lt-ltb (at + length (line_at t at)) (length t) (omega (arith, p, length-drop at t)) in
+        (w, rw w (omega (arith, p, length-drop at t)))
 
-    pub whole_there : from + end < length t → (whole_at t at ≡ true) × (from + end + 1 ≡ next_at t at)
-    whole_there h =
-        let w : whole_at t at ≡ true = lt-ltb (at + length (line_at t at)) (length t) (omega (arith, ends.0)) in
-        (w, rw w (omega (arith, ends.0)))
-
-    pub tail_there : length t ≤ from + end → (whole_at t at ≡ false) × (length t ≡ next_at t at)
-    tail_there h =
-        let w : whole_at t at ≡ false = le-ltb (at + length (line_at t at)) (length t) (omega (arith, ends.0)) in
+    pub tail_there : position (λ x. eqb x 10) (take (length t - from) (drop from t)) ≡ None → (whole_at t at ≡ false) × (length t ≡ next_at t at)
+    tail_there q =
+        let p = position_none 10 (drop at t) (rw here at q) in
+        let l = length_line t at in
+        let w : whole_at t at ≡ false = le-ltb (at + length (line_at t at)) (length t) (omega (arith, p, length-drop at t)) in
         (w, rw w)
 
 -- the lines from an index on: the line there ends in a line feed, or the text does
@@ -176,36 +180,3 @@ module _ (t : List ℕ) (at : ℕ) where
 
   pub lines_tail : length t ≤ at + length (line_at t at) → lines (drop at t) ≡ record { whole = []; tail = drop at t }
   lines_tail h = no_line (drop at t) (omega (arith, length-drop at t, length_line t at, before_within 10 (drop at t)))
-
--- the first i bytes of s are the word's
-pub record Alike (w s : List ℕ) (i : ℕ) : Type 0 where
-  pub within : i ≤ length w
-  pub fits : length w ≤ length s
-  pub known : begins w s ≡ begins (drop i w) (drop i s)
-
-begins_short : (w s : List ℕ) → length s < length w → begins w s ≡ false
-unfolding begins
-begins_short [] s h = absurd (omega arith)
-begins_short (w ∷ ws) [] h = refl
-begins_short (w ∷ ws) (b ∷ bs) h = either (eqb w b) (λ e. rw e (begins_short ws bs (omega arith))) (λ e. rw e)
-
-pub alike_short : (w s : List ℕ) → length s < length w → false ≡ begins w s
-alike_short w s h = sym (begins_short w s h)
-
-pub alike_none : (w s : List ℕ) → length w ≤ length s → Alike w s 0
-alike_none w s h = record { within = omega arith; fits = h; known = refl }
-
-module _ {w s : List ℕ} {i : ℕ} (a : Alike w s i) where
-  alike_next : i < length w → begins w s ≡ (eqb (get_or w i 0) (get_or s i 0) && begins (drop (i + 1) w) (drop (i + 1) s))
-  unfolding begins
-  alike_next h = a.known ∙ rw (drop-cons w i 0 h, drop-cons s i 0 (omega (arith, a.fits)), add-one)
-
-  pub alike_not : i < length w → (get_or w i 0 ≡ get_or s i 0 → ⊥) → false ≡ begins w s
-  alike_not h e = sym (alike_next h ∙ rw (ne_eqb (get_or w i 0) (get_or s i 0) e))
-
-  pub alike_more : i < length w → get_or w i 0 ≡ get_or s i 0 → Alike w s (i + 1)
-  alike_more h e = record { within = omega arith; fits = a.fits; known = alike_next h ∙ rw (eq-eqb (get_or w i 0) (get_or s i 0) e) }
-
-  pub alike_all : length w ≤ i → true ≡ begins w s
-  unfolding begins
-  alike_all h = sym (a.known ∙ rw (drop_of_length-le w {i = i} h))

@@ -1,23 +1,22 @@
 -- A line against a pattern, its numbers known up to a limit.
-use Prim.Native.Nat.{ℕ, suc, ◌+◌, ◌<◌, ◌≤◌, min}
+use Prim.Native.Nat.{ℕ, suc, ◌+◌, ◌≤◌, min}
 use mathlib.Core.Path.{◌≡◌, refl, sym, ap, ◌∙◌}
 use mathlib.Core.Bool.{Bool, true, false, not, true≢false}
 use mathlib.Core.List.{List, [], ◌∷◌}
-use mathlib.Core.Option.{Option, none, some}
+use mathlib.Core.Option.{Option as Maybe, none, some}
 use lib.Dec.{eqb}
-use lib.ListN.{length, get_or, take, drop, length-drop, drop_of_length-le}
-use lib.Seq.{drop-drop, drop-cons}
-use native.Mathlib.Numerals.{add-one}
+use lib.ListN.{length, take, drop, length-drop, drop_of_length-le}
+use lib.Seq.{drop-drop}
 use native.Mathlib.Omega.{arith}
-use borrow.Author.Tests.{eq-eqb, ne_eqb, eqb-true}
+use borrow.Author.Tests.{eq-eqb, ne_eqb, eqb-true, eqb-false}
 use Rattle.laws.specs.Front.{until}
-use Rattle.laws.proofs.Tests.{not_yes, not_no}
 use Rattle.laws.proofs.Cases.{either, by_order}
-use Rattle.laws.proofs.Lists.{drop_clamped}
 use Rattle.text.specs.Lines.{begins, bytes_before, line_at}
 use Rattle.text.specs.Decimal.{digit, number, digits, front, behind, up_to, number_at}
 use Rattle.text.specs.Patterns.{any_number, fit, fit_after, fitting, misfit, past_byte, past_number, capped_fit}
-use Rattle.text.specs.inner.Parts.{On, no_scan, left_of, Past}
+use Rattle.std.specs.Prelude.{Option, None}
+use Rattle.std.specs.Bool.{then_some}
+use Rattle.text.specs.inner.Parts.{On, left_of, Goes, Past}
 use Rattle.text.specs.declared.Fit.{Fit}
 use Rattle.text.specs.declared.NumberAt.{NumberAt}
 use Rattle.text.specs.declared.Scan.{Scan}
@@ -81,7 +80,7 @@ capped_after limit (p ∷ ps) l m n m' n' e q =
     (λ h. rw h (numbers (number (front l)) (λ k. capped_after limit ps (behind l) n k n' k q refl)))
     (λ h. rw h (byte l (λ bs. capped_after limit ps bs m n m' n' e q)))
   where
-    numbers : (x : Option ℕ) → ((k : ℕ) → capped_fit limit (fit_after n k ps (behind l)) ≡ capped_fit limit (fit_after n' k ps (behind l)))
+    numbers : (x : Maybe ℕ) → ((k : ℕ) → capped_fit limit (fit_after n k ps (behind l)) ≡ capped_fit limit (fit_after n' k ps (behind l)))
         → capped_fit limit (past_number x (λ k. fit_after n k ps (behind l))) ≡ capped_fit limit (past_number x (λ k. fit_after n' k ps (behind l)))
     numbers none f = refl
     numbers (some k) f = f k
@@ -91,11 +90,8 @@ capped_after limit (p ∷ ps) l m n m' n' e q =
     byte [] f = refl
     byte (b ∷ bs) f = either (eqb p b) (λ h. rw h (f bs)) (λ h. rw h)
 
-pub capped_misfit : (limit : ℕ) → capped_fit limit misfit ≡ misfit
-capped_misfit limit = let z : up_to limit 0 ≡ 0 = omega arith in rw z
-
 -- a number is one digit long at least
-given : Option ℕ → Bool
+given : Maybe ℕ → Bool
 given none = false
 given (some n) = true
 
@@ -105,7 +101,7 @@ number_long s k e =
     by_order 0 (digits s) (λ h. h) (λ h. let z : digits s ≡ 0 = omega arith in absurd (true≢false (sym (ap given (rw z at e)))))
 
 -- a line that does not go on with a byte, that ends, that does not
-no_byte : (p : ℕ) (l : List ℕ) (f : List ℕ → Fit) → begins (p ∷ []) l ≡ false → past_byte p l f ≡ misfit
+no_byte : (p : ℕ) (l : List ℕ) (f : List ℕ → Option Fit) → begins (p ∷ []) l ≡ false → past_byte p l f ≡ misfit
 unfolding begins
 no_byte p [] f e = refl
 no_byte p (b ∷ bs) f e = either (eqb p b) (λ q. absurd (true≢false (rw q at e))) (λ q. rw q)
@@ -123,21 +119,12 @@ long (b ∷ bs) m n e = refl
 pub number_end : (limit : ℕ) (t : List ℕ) (at : ℕ) {r : NumberAt} → at ≤ length t → r ≡ number_at limit t at → (r.end ≡ at → ⊥) → r.end ≡ at + digits (drop at t)
 number_end limit t at {r} l e h = go (number (front (drop at t))) refl
   where
-    go : (x : Option ℕ) → number (front (drop at t)) ≡ x → r.end ≡ at + digits (drop at t)
+    go : (x : Maybe ℕ) → number (front (drop at t)) ≡ x → r.end ≡ at + digits (drop at t)
     go none q = let z : r.end ≡ min at (length t) = ap (λ (n : NumberAt). n.end) e ∙ rw q in absurd (h (omega arith))
     go (some k) q = let z : r.end ≡ min at (length t) + digits (drop at t) = ap (λ (n : NumberAt). n.end) e ∙ rw q in omega arith
 
 -- one byte of a pattern: what its number or its byte comes to
 module _ (limit : ℕ) (t : List ℕ) (s : Scan) (on : On limit t s) where
-  stopped_on : On limit t no_scan
-  stopped_on = record { within = omega arith; low = omega arith; lower = omega arith }
-
-  stops : (p : ℕ) → ((ps : List ℕ) → left_of limit t (p ∷ ps) s ≡ misfit) → Past limit t p s no_scan
-  stops p h = record { goes_on = λ e. absurd (true≢false (sym e)); stops = λ e. h; on = stopped_on }
-
-  goes : (p : ℕ) (r : Scan) → r.fits ≡ true → On limit t r → ((ps : List ℕ) → left_of limit t (p ∷ ps) s ≡ left_of limit t ps r) → Past limit t p s r
-  goes p r f o h = record { goes_on = λ e. h; stops = λ e. absurd (true≢false (sym f ∙ e)); on = o }
-
   -- the number at the scan's index
   fit_number : (ps : List ℕ) → left_of limit t (35 ∷ ps) s
       ≡ capped_fit limit (past_number (number (front (drop s.at t))) (λ k. fit_after s.number k ps (line_at t (s.at + digits (drop s.at t)))))
@@ -145,21 +132,21 @@ module _ (limit : ℕ) (t : List ℕ) (s : Scan) (on : On limit t s) where
   fit_number ps = rw (line_front t s.at, line_behind t s.at)
 
   -- what the code finds there: no number, or one and the index after it
-  pub past_none : {r : NumberAt} {n : Scan} → r ≡ number_at limit t s.at → r.end ≡ s.at → n ≡ no_scan → Past limit t 35 s n
-  past_none {r} e h z = rw z (go (number (front (drop s.at t))) refl)
+  pub past_none : {r : NumberAt} → r ≡ number_at limit t s.at → r.end ≡ s.at → Past limit t 35 s None
+  past_none {r} e h = go (number (front (drop s.at t))) refl
     where
-      go : (x : Option ℕ) → number (front (drop s.at t)) ≡ x → Past limit t 35 s no_scan
-      go none q = stops 35 (λ ps. fit_number ps ∙ rw q (capped_misfit limit))
+      go : (x : Maybe ℕ) → number (front (drop s.at t)) ≡ x → Past limit t 35 s None
+      go none q = λ ps. fit_number ps ∙ rw q
       go (some k) q =
           let l = number_long (drop s.at t) k q in
           let z : r.end ≡ min s.at (length t) + digits (drop s.at t) = ap (λ (n : NumberAt). n.end) e ∙ rw q in
           absurd (omega (arith, on.within))
 
   pub past_found : {r : NumberAt} → r ≡ number_at limit t s.at → (r.end ≡ s.at → ⊥)
-      → Past limit t 35 s (record { fits = true; before = s.number; number = r.value; at = r.end })
+      → Goes limit t 35 s (record { before = s.number; number = r.value; at = r.end })
   past_found {r} e h = go (number (front (drop s.at t))) refl
     where
-      go : (x : Option ℕ) → number (front (drop s.at t)) ≡ x → Past limit t 35 s (record { fits = true; before = s.number; number = r.value; at = r.end })
+      go : (x : Maybe ℕ) → number (front (drop s.at t)) ≡ x → Goes limit t 35 s (record { before = s.number; number = r.value; at = r.end })
       go none q =
           let z : r.end ≡ min s.at (length t) = ap (λ (n : NumberAt). n.end) e ∙ rw q in
           absurd (h (omega (arith, on.within)))
@@ -168,12 +155,15 @@ module _ (limit : ℕ) (t : List ℕ) (s : Scan) (on : On limit t s) where
           let y : r.end ≡ s.at + digits (drop s.at t) = omega (arith, on.within) in
           let v : r.value ≡ up_to limit k = ap (λ (n : NumberAt). n.value) e ∙ rw q in
           let w : up_to limit k ≡ up_to limit r.value = omega arith in
-          goes 35 (record { fits = true; before = s.number; number = r.value; at = r.end }) refl
-          (record { within = omega (arith, digits_within (drop s.at t), length-drop s.at t); low = on.lower; lower = omega arith })
-          (λ ps. fit_number ps ∙ rw (q, ← y) (capped_after limit ps (line_at t r.end) s.number k s.number r.value refl w))
+          record {
+            goes_on = λ ps. fit_number ps ∙ rw (q, ← y) (capped_after limit ps (line_at t r.end) s.number k s.number r.value refl w);
+            on = record { within = omega (arith, digits_within (drop s.at t), length-drop s.at t); low = on.lower; lower = omega arith };
+          }
 
-  pub past_hash : {p : ℕ} {r : Scan} → p ≡ 35 → Past limit t 35 s r → Past limit t p s r
-  past_hash {p} {r} e h = rw e h
+  pub past_number_is : {r : NumberAt} {n : Option Scan} → r ≡ number_at limit t s.at
+      → n ≡ then_some (not (eqb r.end s.at)) (record { before = s.number; number = r.value; at = r.end }) → Past limit t 35 s n
+  past_number_is {r} e q =
+      rw q (either (eqb r.end s.at) (λ h. rw h (past_none e (eqb-true r.end s.at h))) (λ h. rw h (past_found e (eqb-false r.end s.at h))))
 
   -- another byte
   module _ (p : ℕ) (other : p ≡ 35 → ⊥) {b : Bool} (e : b ≡ begins (p ∷ []) (line_at t s.at)) where
@@ -181,18 +171,19 @@ module _ (limit : ℕ) (t : List ℕ) (s : Scan) (on : On limit t s) where
     unfolding fit_after
     fit_byte ps = rw (ne_eqb p 35 other)
 
-    pub past_not : {n : Scan} → b ≡ false → n ≡ no_scan → Past limit t p s n
-    past_not h z = rw z (stops p (λ ps. fit_byte ps ∙ ap (capped_fit limit) (no_byte p (line_at t s.at) (λ bs. fit_after s.before s.number ps bs) (sym e ∙ h)) ∙ capped_misfit limit))
+    pub past_not : b ≡ false → Past limit t p s None
+    past_not h = λ ps. fit_byte ps ∙ ap (capped_fit limit) (no_byte p (line_at t s.at) (λ bs. fit_after s.before s.number ps bs) (sym e ∙ h))
 
-    pub past_is : b ≡ true → Past limit t p s (record { fits = true; before = s.before; number = s.number; at = s.at + 1 })
+    pub past_is : b ≡ true → Goes limit t p s (record { before = s.before; number = s.number; at = s.at + 1 })
     past_is h =
         let l = byte_there t s.at p (sym e ∙ h) in
-        goes p (record { fits = true; before = s.before; number = s.number; at = s.at + 1 }) refl
-        (record { within = omega (arith, l.0); low = on.low; lower = on.lower })
-        (λ ps. fit_byte ps ∙ rw (l.1, eq-eqb p p refl))
+        record {
+          goes_on = λ ps. fit_byte ps ∙ rw (l.1, eq-eqb p p refl);
+          on = record { within = omega (arith, l.0); low = on.low; lower = on.lower };
+        }
 
-    pub byte_fits : b ≡ true → s.at < length t
-    byte_fits h = (byte_there t s.at p (sym e ∙ h)).0
+    pub past_byte_is : {n : Option Scan} → n ≡ then_some b (record { before = s.before; number = s.number; at = s.at + 1 }) → Past limit t p s n
+    past_byte_is q = rw q (either b (λ h. rw h (past_is h)) (λ h. rw h (past_not h)))
 
 -- a line against a pattern, up to an index of the pattern
 pub record Scanned (limit : ℕ) (t : List ℕ) (at : ℕ) (ps : List ℕ) (s : Scan) (i : ℕ) : Type 0 where
@@ -201,22 +192,7 @@ pub record Scanned (limit : ℕ) (t : List ℕ) (at : ℕ) (ps : List ℕ) (s : 
   pub known : capped_fit limit (fit ps (line_at t at)) ≡ left_of limit t (drop i ps) s
 
 module _ {limit : ℕ} {t : List ℕ} {at : ℕ} {ps : List ℕ} where
-  pub scan_start : {from : ℕ} → from ≡ min at (length t) → Scanned limit t at ps (record { fits = true; before = 0; number = 0; at = from }) 0
-  scan_start {from} e =
-      let d : drop from t ≡ drop at t = rw (e, drop_clamped at t) in
-      record { on = record { within = omega arith; low = omega arith; lower = omega arith }; within = omega arith; known = rw d }
-
   module _ {s : Scan} {i : ℕ} (a : Scanned limit t at ps s i) where
-    module _ (h : i < length ps) {r : Scan} (p : Past limit t (get_or ps i 0) s r) where
-      due : left_of limit t (drop i ps) s ≡ left_of limit t (get_or ps i 0 ∷ drop (i + 1) ps) s
-      due = let d : drop i ps ≡ get_or ps i 0 ∷ drop (i + 1) ps = rw (drop-cons ps i 0 h, add-one) in rw d
-
-      pub scan_stop : {f : Fit} → not r.fits ≡ true → f ≡ misfit → f ≡ capped_fit limit (fit ps (line_at t at))
-      scan_stop e q = q ∙ sym (a.known ∙ due ∙ p.stops ((not_yes r.fits).0 e) (drop (i + 1) ps))
-
-      pub scan_more : not r.fits ≡ false → Scanned limit t at ps r (i + 1)
-      scan_more e = record { on = p.on; within = omega arith; known = a.known ∙ due ∙ p.goes_on ((not_no r.fits).0 e) (drop (i + 1) ps) }
-
     module _ (h : length ps ≤ i) {b : Bool} (e : b ≡ eqb (length (line_at t s.at)) 0) where
       over : capped_fit limit (fit ps (line_at t at)) ≡ capped_fit limit (fit_after s.before s.number [] (line_at t s.at))
       over = a.known ∙ rw (drop_of_length-le ps {i = i} h)
@@ -229,5 +205,8 @@ module _ {limit : ℕ} {t : List ℕ} {at : ℕ} {ps : List ℕ} where
           let n : up_to limit s.number ≡ s.number = omega (arith, a.on.lower) in
           sym (over ∙ rw (z, m, n))
 
-      pub scan_long : {f : Fit} → b ≡ false → f ≡ misfit → f ≡ capped_fit limit (fit ps (line_at t at))
-      scan_long q z = z ∙ sym (over ∙ ap (capped_fit limit) (long (line_at t s.at) s.before s.number (sym e ∙ q)) ∙ capped_misfit limit)
+      pub scan_long : b ≡ false → misfit ≡ capped_fit limit (fit ps (line_at t at))
+      scan_long q = sym (over ∙ ap (capped_fit limit) (long (line_at t s.at) s.before s.number (sym e ∙ q)))
+
+      pub scan_is : {f : Option Fit} → f ≡ then_some b (record { before = s.before; number = s.number }) → f ≡ capped_fit limit (fit ps (line_at t at))
+      scan_is q = q ∙ either b (λ h. rw h (scan_fits h)) (λ h. rw h (scan_long h))

@@ -3,7 +3,8 @@ use Prim.Native.Nat.{ℕ, ◌+◌, ◌/◌, ◌%◌, ◌<◌, ◌≤◌}
 use mathlib.Core.Path.{◌≡◌, refl, sym, ap, ◌∙◌}
 use mathlib.Core.Bool.{true, false, true≢false}
 use mathlib.Core.List.{List, [], ◌∷◌, ◌++◌, append_assoc, append-nil}
-use mathlib.Core.Option.{Option, none, some}
+use mathlib.Core.Option.{Option as Maybe, none, some}
+use Rattle.std.specs.Prelude.{Option, is_some}
 use native.Mathlib.Omega.{arith}
 use borrow.Author.Tests.{ne_eqb, eqb-true}
 use lib.Dec.{eqb}
@@ -72,7 +73,7 @@ fits_number w ending n e f h =
 
 -- ---- what fits is so written
 
-not_fit : {X : Type 0} → misfit.fits ≡ true → X
+not_fit : {X : Type 0} → is_some misfit ≡ true → X
 not_fit e = absurd (true≢false (sym e))
 
 -- a word at the front of a line that fits
@@ -81,7 +82,7 @@ record Begins (w ps l : List ℕ) (m n : ℕ) : Type 0 where
   is : l ≡ w ++ rest
   same : fit_after m n (w ++ ps) l ≡ fit_after m n ps rest
 
-fit_begins : (w ps l : List ℕ) (m n : ℕ) → literal w ≡ true → (fit_after m n (w ++ ps) l).fits ≡ true → Begins w ps l m n
+fit_begins : (w ps l : List ℕ) (m n : ℕ) → literal w ≡ true → is_some (fit_after m n (w ++ ps) l) ≡ true → Begins w ps l m n
 unfolding fit_after
 fit_begins [] ps l m n e h = record { rest = l; is = refl; same = refl }
 fit_begins (w ∷ ws) ps l m n e h =
@@ -91,8 +92,8 @@ fit_begins (w ∷ ws) ps l m n e h =
     both : {a b : ℕ} {xs ys : List ℕ} → a ≡ b → xs ≡ ys → a ∷ xs ≡ b ∷ ys
     both p q = cc
 
-    byte : (l : List ℕ) → eqb w any_number ≡ false → (past_byte w l (λ bs. fit_after m n (ws ++ ps) bs)).fits ≡ true →
-        ((bs : List ℕ) → (fit_after m n (ws ++ ps) bs).fits ≡ true → Begins ws ps bs m n) → Begins (w ∷ ws) ps l m n
+    byte : (l : List ℕ) → eqb w any_number ≡ false → is_some (past_byte w l (λ bs. fit_after m n (ws ++ ps) bs)) ≡ true →
+        ((bs : List ℕ) → is_some (fit_after m n (ws ++ ps) bs) ≡ true → Begins ws ps bs m n) → Begins (w ∷ ws) ps l m n
     byte [] q h f = not_fit h
     byte (b ∷ bs) q h f =
         either (eqb w b)
@@ -102,19 +103,19 @@ fit_begins (w ∷ ws) ps l m n e h =
         record { rest = r.rest; is = both z r.is; same = rw (q, y) r.same })
         (λ y. not_fit (rw y at h))
 
-fit_nothing : (l : List ℕ) (m n : ℕ) → (fit_after m n [] l).fits ≡ true → (l ≡ []) × (fit_after m n [] l ≡ fitting m n)
+fit_nothing : (l : List ℕ) (m n : ℕ) → is_some (fit_after m n [] l) ≡ true → (l ≡ []) × (fit_after m n [] l ≡ fitting m n)
 unfolding fit_after
 fit_nothing [] m n h = (refl, refl)
 fit_nothing (b ∷ bs) m n h = not_fit h
 
-fit_word_alone : (w l : List ℕ) (m n : ℕ) → literal w ≡ true → (fit_after m n w l).fits ≡ true → (l ≡ w) × (fit_after m n w l ≡ fitting m n)
+fit_word_alone : (w l : List ℕ) (m n : ℕ) → literal w ≡ true → is_some (fit_after m n w l) ≡ true → (l ≡ w) × (fit_after m n w l ≡ fitting m n)
 fit_word_alone w l m n e h =
     let a : w ++ [] ≡ w = append-nil w in
     let b = fit_begins w [] l m n e (rw a h) in
-    let z = fit_nothing b.rest m n (ap (λ (f : Fit). f.fits) (sym b.same) ∙ rw a h) in
+    let z = fit_nothing b.rest m n (ap (λ (f : Option Fit). is_some f) (sym b.same) ∙ rw a h) in
     (b.is ∙ rw (z.0, a), ap (λ (x : List ℕ). fit_after m n x l) (sym a) ∙ b.same ∙ z.1)
 
-pub fits_alone : (w l : List ℕ) → literal w ≡ true → (fit w l).fits ≡ true → (l ≡ w) × (fit w l ≡ fitting 0 0)
+pub fits_alone : (w l : List ℕ) → literal w ≡ true → is_some (fit w l) ≡ true → (l ≡ w) × (fit w l ≡ fitting 0 0)
 fits_alone w l e h = fit_word_alone w l 0 0 e h
 
 -- the number of a line that fits
@@ -123,13 +124,13 @@ pub record Numbered (w ending l : List ℕ) : Type 0 where
   pub is : l ≡ w ++ (numeral value ++ ending)
   pub same : fit (w ++ (any_number ∷ ending)) l ≡ fitting 0 value
 
-pub fits_spells : (w ending l : List ℕ) → literal w ≡ true → literal ending ≡ true → (fit (w ++ (any_number ∷ ending)) l).fits ≡ true → Numbered w ending l
+pub fits_spells : (w ending l : List ℕ) → literal w ≡ true → literal ending ≡ true → is_some (fit (w ++ (any_number ∷ ending)) l) ≡ true → Numbered w ending l
 unfolding fit_after
 fits_spells w ending l e f h =
     let b = fit_begins w (any_number ∷ ending) l 0 0 e h in
     go b.rest b.is b.same (number (front b.rest)) refl
   where
-    go : (r : List ℕ) → l ≡ w ++ r → fit (w ++ (any_number ∷ ending)) l ≡ past_number (number (front r)) (λ k. fit_after 0 k ending (behind r)) → (x : Option ℕ) → number (front r) ≡ x → Numbered w ending l
+    go : (r : List ℕ) → l ≡ w ++ r → fit (w ++ (any_number ∷ ending)) l ≡ past_number (number (front r)) (λ k. fit_after 0 k ending (behind r)) → (x : Maybe ℕ) → number (front r) ≡ x → Numbered w ending l
     go r i s none q = let g : fit (w ++ (any_number ∷ ending)) l ≡ misfit = s ∙ rw q in not_fit (rw g at h)
     go r i s (some k) q =
         let g : fit (w ++ (any_number ∷ ending)) l ≡ fit_after 0 k ending (behind r) = s ∙ rw q in

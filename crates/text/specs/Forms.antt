@@ -1,5 +1,5 @@
 -- The forms of lines: a text has a table of patterns, and the first that a line fits says its kind.
-use Rattle.std.specs.Prelude.{ℕ, cond, List, [], ◌∷◌, eqb}
+use Rattle.std.specs.Prelude.{ℕ, cond, List, [], ◌∷◌, eqb, Option, None, Some}
 use Prim.Native.String.{String}
 use Rattle.text.specs.Patterns.{bytes, fill, fit, capped_fit}
 use Rattle.text.specs.declared.Fit.{Fit}
@@ -29,8 +29,9 @@ abbrev pub with_number : ℕ → ℕ → Form
 with_number kind n = record { kind = kind; before = 0; number = n }
 
 -- the form of a line that fits, else another
-abbrev pub fitted : ℕ → Fit → Form → Form
-fitted kind f rest = cond f.fits (record { kind = kind; before = f.before; number = f.number }) rest
+abbrev pub fitted : ℕ → Option Fit → Form → Form
+fitted kind None rest = rest
+fitted kind (Some f) rest = record { kind = kind; before = f.before; number = f.number }
 
 -- the form of a whole line
 unfoldable pub form : List Row → List ℕ → Form

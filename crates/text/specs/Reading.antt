@@ -3,6 +3,8 @@ use Rattle.std.specs.Prelude.{ℕ, zero, suc, ◌+◌, Bool, cond, ◌&&◌, Lis
 use Rattle.text.specs.Lines.{lines}
 use Rattle.text.specs.Forms.{Row, form, plain, unfinished}
 use Rattle.text.specs.declared.Form.{Form}
+use Rattle.text.specs.declared.Refused.{Refused}
+use Rattle.refusal.specs.Numbers.{numbered}
 
 -- what a line comes to after those that made s: it makes more, or it is refused by a number
 pub data Step (S : Type 0) : Type 0 where
@@ -13,6 +15,10 @@ pub data Step (S : Type 0) : Type 0 where
 pub data Read (S : Type 0) : Type 0 where
   made : S → Read S
   no : ℕ → ℕ → Read S
+
+-- a refusal by its number, and its line
+abbrev pub refused_at : ℕ → ℕ → Refused
+refused_at n k = record { line = k; refusal = numbered n }
 
 -- the refusal that a table of rows gives, or, where that is 0, what is made
 abbrev pub unless : {S : Type 0} → ℕ → S → Step S

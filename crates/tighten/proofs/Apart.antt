@@ -16,7 +16,8 @@ use Rattle.index.specs.Postings.{device, shared, reach, carries}
 use Rattle.index.specs.inner.Lists.{SoundList}
 use Rattle.index.proofs.Lists.{here, rises}
 use Rattle.index.proofs.Accepted.{sound_device}
-use Rattle.tighten.specs.inner.Branches.{carried, Forest}
+use Rattle.tighten.specs.inner.Branches.{carried}
+use Rattle.plant.specs.inner.Forest.{Forest}
 use Rattle.tighten.specs.inner.List.{Apart, RunsTo, Known}
 
 -- the postings of a sound list do

@@ -16,7 +16,7 @@ use Rattle.plant.specs.Plant.{holds}
 use Rattle.index.specs.Postings.{posting, device, shared, reach}
 use Rattle.index.proofs.Lists.{device_of, shared_of, reach_of}
 use Rattle.tighten.specs.Tight.{whole, inside, leaf, postings_at, tight}
-use Rattle.tighten.specs.inner.Branches.{Forest}
+use Rattle.plant.specs.inner.Forest.{Forest}
 
 -- device d has a posting, and which: where its branch is whole, if that is not inside a larger whole one, for the branch; else if d has the term
 abbrev pub posted : List ℕ → (ℕ → Bool) → ℕ → Bool

@@ -15,7 +15,8 @@ use Rattle.laws.proofs.Search.{any_found, lowest_of}
 use Rattle.index.specs.Postings.{device, shared, reach, carries, misplaced, shadowed, redundant}
 use Rattle.index.proofs.Lists.{ranged, chosen_placed}
 use Rattle.tighten.specs.Tight.{whole, tight}
-use Rattle.tighten.specs.inner.Branches.{carried, Forest}
+use Rattle.tighten.specs.inner.Branches.{carried}
+use Rattle.plant.specs.inner.Forest.{Forest}
 use Rattle.tighten.proofs.Branches.{posted, posting_at, tight_is, posting_device, reach_whole, reach_alone, posting_shared, whole_has, posted_has, posted_outer, covered}
 
 -- only devices of the plant carry the term of a list whose devices rise

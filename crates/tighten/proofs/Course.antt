@@ -10,7 +10,8 @@ use Rattle.laws.proofs.Joined.{joined_empty}
 use Rattle.laws.proofs.Search.{any_none}
 use Rattle.index.specs.inner.Laying.{ListPut}
 use Rattle.tighten.specs.Tight.{postings_at, tight}
-use Rattle.tighten.specs.inner.Branches.{carried, Forest}
+use Rattle.tighten.specs.inner.Branches.{carried}
+use Rattle.plant.specs.inner.Forest.{Forest}
 use Rattle.tighten.specs.inner.List.{Apart, Known, Leads, Bounds}
 use Rattle.tighten.specs.declared.list.Lead.{Lead}
 use Rattle.tighten.proofs.Branches.{at_none, lacks_none}
@@ -35,22 +36,6 @@ pub record Course (last p₀ : List ℕ) (start end to : ℕ) (p : List ℕ) (un
   pub left : done ++ tight last (carried last (slice at end p₀)) ≡ tight last (carried last (slice start end p₀))
   pub apart : Apart last (slice at end p₀)
   pub known : Known last (slice at end p₀) until
-
-pub course_start : {last p : List ℕ} {start end to : ℕ} → Bounds p start end to → Apart last (slice start end p) → Course last p start end to p 0 to start
-course_start {last} {p} {start} {end} {to} b A = record {
-  done = [];
-  bounds = b;
-  low = omega arith;
-  high = b.order;
-  behind = b.lower;
-  size = refl;
-  place_is = omega arith;
-  front = sym (append-nil (take to p));
-  rest = refl;
-  left = refl;
-  apart = A;
-  known = record { runs = λ u v. absurd (omega (arith, (A.of_plant 0 u).first)) };
-}
 
 module _ {last p₀ : List ℕ} {start end to : ℕ} {p : List ℕ} {until place at : ℕ} (F : Forest last) (c : Course last p₀ start end to p until place at) where
   pub course_end : end ≤ at → ListPut p₀ end to (tight last (carried last (slice start end p₀))) p place
@@ -82,9 +67,6 @@ module _ {last p₀ : List ℕ} {start end to : ℕ} {p : List ℕ} {until place
 
     pub course_apart : Apart last (take (end - at) (drop at p))
     course_apart = rw part_is c.apart
-
-    pub course_some : 0 < length (take (end - at) (drop at p))
-    course_some = rw part_is (omega (arith, long))
 
     pub course_known : Known last (take (end - at) (drop at p)) until
     course_known = rw part_is c.known

@@ -1,4 +1,4 @@
--- Postings that follow one another, and those that are passed.
+-- Postings that follow one another.
 use Prim.Native.Nat.{ℕ, ◌+◌, ◌-◌, ◌≤◌, ◌<◌}
 use mathlib.Core.Path.{◌≡◌, sym, ◌∙◌}
 use mathlib.Core.Bool.{Bool, true, false, ◌||◌, not}
@@ -6,13 +6,11 @@ use mathlib.Core.List.{List}
 use native.Mathlib.Omega.{arith}
 use lib.Dec.{leb, eqb}
 use lib.ListN.{length, get_or}
-use Rattle.laws.specs.Limits.{most_devices}
 use Rattle.laws.specs.Tables.{entry}
 use Rattle.laws.proofs.Tests.{tests}
 use Rattle.laws.proofs.Cases.{by_order, either}
-use Rattle.index.specs.Around.{Around}
 use Rattle.index.specs.Postings.{device, shared, reach}
-use Rattle.tighten.specs.inner.Branches.{Forest}
+use Rattle.plant.specs.inner.Forest.{Forest}
 use Rattle.tighten.specs.inner.List.{Apart, Opens, Running, Runs}
 use Rattle.tighten.proofs.Apart.{own_reach, carries_at, between}
 
@@ -71,9 +69,6 @@ module _ {last l : List ℕ} {d end : ℕ} (F : Forest last) (A : Apart last l) 
   }
 
   module _ {until count : ℕ} (r : Running last l end until count) where
-    pub running_few : until ≤ most_devices
-    running_few = let n = F.few in let p = of_plant in let b = o.branch in omega (arith, r.most, F.inner d p.0 p.1)
-
     module _ {b : Bool} (u : count < length l) (f : b ≡ (leb end until || not (eqb (device (get_or l count 0)) (until + 1)))) where
       pub running_turn : b ≡ false → {until' : ℕ} → until' ≡ reach last (get_or l count 0) → Running last l end until' (count + 1)
       running_turn p g =
@@ -95,28 +90,8 @@ module _ {last l : List ℕ} {d end : ℕ} (F : Forest last) (A : Apart last l) 
       running_stop p = runs_of F A r (λ v w e.
           let t = simp tests at (sym f ∙ p) in t (omega arith) e)
 
-    pub running_past : length l ≤ count → Runs last l end (record { count = count; until = until })
-    running_past v = runs_of F A r (λ w x. absurd (omega arith))
-
--- ---- postings that are passed
-
--- from the second on, up to index i, none is beyond the end
-pub record Passing (l : List ℕ) (end i : ℕ) : Type 0 where
-  pub some : 1 ≤ i
-  pub within : i ≤ length l
-  pub before : 1 < i → device (get_or l (i - 1) 0) < end + 1
-
-pub passing_start : {l : List ℕ} {end : ℕ} → 0 < length l → Passing l end 1
-passing_start u = record { some = omega arith; within = omega arith; before = λ v. absurd (omega arith) }
-
-module _ {l : List ℕ} {end i : ℕ} (p : Passing l end i) where
-  pub passing_turn : {d : ℕ} → i < length l → d ≡ device (get_or l i 0) → d ≤ end → Passing l end (i + 1)
-  passing_turn u e v =
-      let z : i + 1 - 1 ≡ i = omega arith in
-      record { some = omega arith; within = omega arith; before = λ w. rw z (omega arith) }
-
-  pub passing_found : {d : ℕ} → i < length l → d ≡ device (get_or l i 0) → end < d → Around device l 1 (length l) (end + 1) i i
-  passing_found u e v = record { from = p.some; ordered = omega arith; to = p.within; before = p.before; after = λ w. omega arith }
-
-  pub passing_end : length l ≤ i → Around device l 1 (length l) (end + 1) i i
-  passing_end u = record { from = p.some; ordered = omega arith; to = p.within; before = p.before; after = λ w. absurd (omega arith) }
+    pub running_past : length l ≤ count → Runs last l end (record { count = length l; until = until })
+    running_past v =
+        let n = r.within in
+        let e : length l ≡ count = omega arith in
+        rw e (runs_of F A r (λ w x. absurd (omega arith)))

@@ -12,7 +12,8 @@ use Rattle.laws.proofs.Cases.{by_order, either}
 use Rattle.index.specs.Around.{Around}
 use Rattle.index.specs.Postings.{posting, device, shared, reach}
 use Rattle.tighten.specs.Tight.{whole, leaf, tight}
-use Rattle.tighten.specs.inner.Branches.{carried, Forest}
+use Rattle.tighten.specs.inner.Branches.{carried}
+use Rattle.plant.specs.inner.Forest.{Forest}
 use Rattle.tighten.specs.inner.List.{Apart, RunsTo, Known, Opens, Runs, Leads}
 use Rattle.tighten.specs.declared.list.Run.{Run}
 use Rattle.tighten.proofs.Branches.{posting_at, whole_has, whole_of}
@@ -85,9 +86,6 @@ module _ {last l : List ℕ} (F : Forest last) (A : Apart last l) (u : 0 < lengt
   at_end : end ≡ entry last (device (get_or l 0 0))
   at_end = rw g at e
 
-  pub made_few : x ≤ 131_071
-  made_few = let n = F.few in let i = (A.of_plant 0 u).last in rw m (either (eqb end d) (λ t. rw t (omega arith)) (λ t. rw t (omega arith)))
-
   module _ {b : Bool} (f : b ≡ not (eqb (device (get_or l 1 0) * 2) (x + cond (eqb end d) 262_144 2))) where
     abbrev q₀ : ℕ
     q₀ = get_or l 0 0
@@ -140,9 +138,6 @@ module _ {last l : List ℕ} (F : Forest last) (A : Apart last l) (u : 0 < lengt
 -- ---- something is
 
 module _ {last l : List ℕ} {d end : ℕ} (F : Forest last) (A : Apart last l) (o : Opens last l d end) where
-  pub first_few : get_or l 0 0 ≤ 131_070
-  first_few = let n = F.few in let p = of_plant F A o in omega (arith, o.own)
-
   pub known_runs : {until : ℕ} → Known last l until → d ≤ until → RunsTo last l until
   known_runs k v = let z = own_device F A o in k.runs o.some (omega arith)
 

@@ -13,7 +13,7 @@ use Rattle.laws.proofs.Cases.{by_order, either}
 use Rattle.laws.proofs.Joined.{any_same, joined_same, joined_last, joined_still, joined_upto}
 use Rattle.plant.specs.Plant.{holds}
 use Rattle.tighten.specs.Tight.{whole, inside, postings_at, tight}
-use Rattle.tighten.specs.inner.Branches.{Forest}
+use Rattle.plant.specs.inner.Forest.{Forest}
 use Rattle.tighten.proofs.Branches.{posted, posting_at, at_posted, at_none, inside_none, whole_own, posted_outer, lacks_none}
 
 -- beyond device m two terms have the same carriers, and no whole branch of either goes from m or before on past m

@@ -1,30 +1,22 @@
 -- Going through the lists of an index, to tighten them.
-use Prim.Native.Nat.{ℕ, ◌+◌, ◌<◌, ◌≤◌}
+use Prim.Native.Nat.{ℕ, ◌+◌, ◌<◌}
 use mathlib.Core.Path.{◌≡◌}
 use mathlib.Core.List.{List}
 use native.Mathlib.Omega.{arith}
 use lib.ListN.{length, get_or, set}
 use lib.Seq.{slice}
-use Rattle.index.specs.Index.{Index, count, list, most_postings}
-use Rattle.index.specs.inner.Laying.{ListPut, ListsLaid}
-use Rattle.index.proofs.Laying.{Laying, lay_few, lay_starts, lay_end, lay_bounds, lay_list, lay_turn}
+use Rattle.index.specs.Index.{Index, count, list}
+use Rattle.index.specs.inner.Laying.{ListPut}
+use Rattle.index.proofs.Laying.{Laying, lay_bounds, lay_list, lay_turn}
 use Rattle.tighten.specs.Tight.{tight}
-use Rattle.tighten.specs.inner.Branches.{carried, tight_of, Forest, SoundLists}
+use Rattle.tighten.specs.inner.Branches.{carried, tight_of, SoundLists}
+use Rattle.plant.specs.inner.Forest.{Forest}
 use Rattle.tighten.specs.inner.List.{Apart, Bounds}
 use Rattle.tighten.proofs.Apart.{sound_apart}
 use Rattle.tighten.proofs.Theorems.{no_longer}
 
 module _ {last : List ℕ} {I : Index} {starts p : List ℕ} {place start k : ℕ} (F : Forest last) (S : SoundLists last I)
     (t : Laying I (tight_of last I) starts p place start k) where
-  pub round_few : place ≤ most_postings
-  round_few = lay_few S.outline (no_longer F I) t
-
-  pub round_starts : k < count I → k < length starts
-  round_starts = lay_starts S.outline (no_longer F I) t
-
-  pub round_end : count I ≤ k → ListsLaid I (tight_of last I) (count I) starts p place
-  round_end = lay_end S.outline (no_longer F I) t
-
   -- the next list
   module _ {end : ℕ} (u : k < count I) (e : end ≡ get_or starts (k + 1) (length p)) where
     next_list : slice start end p ≡ list I (k + 1)

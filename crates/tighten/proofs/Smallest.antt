@@ -16,7 +16,8 @@ use Rattle.laws.proofs.Joined.{some, some_cons}
 use Rattle.laws.proofs.Search.{any_found, lowest_of}
 use Rattle.index.specs.Postings.{device, shared, reach, carries}
 use Rattle.tighten.specs.Tight.{tight}
-use Rattle.tighten.specs.inner.Branches.{carried, Forest}
+use Rattle.tighten.specs.inner.Branches.{carried}
+use Rattle.plant.specs.inner.Forest.{Forest}
 use Rattle.tighten.proofs.Branches.{posted, posting_at, tight_is, whole_of, posted_has, posted_outer}
 
 -- how many entries have a key up to n

@@ -6,8 +6,9 @@ use mathlib.Core.List.{List}
 use native.Mathlib.Omega.{arith}
 use lib.ListN.{length}
 use Rattle.laws.proofs.Search.{any_none}
-use Rattle.plant.specs.Plant.{Plant, size, plant_refusal}
+use Rattle.plant.specs.Plant.{Plant, size}
 use Rattle.plant.proofs.Forest as forests
+use Rattle.plant.proofs.Forest.{forest}
 use Rattle.index.specs.Index.{Index, count, list, list_of, misplaced_in, redundant_in, tables_refusal}
 use Rattle.index.proofs.Unshared.{unshared_some}
 use Rattle.index.proofs.Accepted.{Accepted, accepted, accepts, accepted_outline, accepted_list, accepted_list_of, sound_rising}
@@ -21,7 +22,8 @@ use Rattle.steps.proofs.Promises.{lists_exactly}
 use Rattle.tighten.specs.Tight.{tight}
 use Rattle.tighten.specs.Tightened.{carriers, tight_in, tightened}
 use Rattle.tighten.specs.Promises.{OnPlant, ended, Tightens}
-use Rattle.tighten.specs.inner.Branches.{carried, tight_of, Forest, SoundLists}
+use Rattle.tighten.specs.inner.Branches.{carried, tight_of, SoundLists}
+use Rattle.plant.specs.inner.Forest.{Forest}
 use Rattle.tighten.proofs.Carriers.{in_plant, same_carriers, tight_redundant, tight_placed}
 use Rattle.tighten.proofs.Smallest.{smallest}
 
@@ -31,9 +33,6 @@ carriers_are last l = fun_ext (unshared_some last l)
 
 pub tight_lists : (P : Plant) (I : Index) → tight_in P I ≡ tight_of P.last I
 tight_lists P I = fun_ext (λ k. ap (tight P.last) (carriers_are P.last (list I k)))
-
-pub forest : (P : Plant) → plant_refusal P ≡ 0 → Forest P.last
-forest P z = let s = forests.accepted P z in record { few = s.few; own = s.own; inner = s.inside; nested = s.nested }
 
 -- no list has more postings than it had
 pub no_longer : {last : List ℕ} → Forest last → (I : Index) → NoLonger I (tight_of last I)

@@ -1,12 +1,13 @@
 -- What is promised of tightening.
-use Rattle.std.specs.Prelude.{ℕ, ◌+◌, ◌≤◌, ◌≡◌, List, length}
+use Rattle.std.specs.Prelude.{ℕ, ◌+◌, ◌≤◌, ◌≡◌, Result, List, length}
+use Rattle.refusal.specs.declared.Refusal.{Refusal}
+use Rattle.refusal.specs.Numbers.{refused}
 use Rattle.plant.specs.Plant.{Plant, size}
 use Rattle.index.specs.Index.{Index, list_of, tables_refusal}
 use Rattle.steps.specs.Matching.{Criteria, matches}
 use Rattle.steps.specs.Steps.{End, steps}
 use Rattle.tighten.specs.Tightened.{carriers, tightened}
-use Rattle.tighten.specs.Outcome.{outcome_of, starts_after, postings_after, tightened_number, tightened_length, length_of}
-use Rattle.tighten.specs.declared.Tightened.{Tightened}
+use Rattle.tighten.specs.Outcome.{outcome_of, starts_after, postings_after, tightened_length, length_of}
 
 -- criteria whose positions are those of a plant, as every query's are that is not refused
 pub record OnPlant (P : Plant) (a : Criteria) : Type 0 where
@@ -38,9 +39,9 @@ pub record Tightens (P : Plant) (I : Index) : Type 0 where
   pub accepted : tables_refusal P (tightened P I) ≡ 0
 
 -- the outcome r, and every entry of starts and postings, which were those of I
-pub record TightenGives (P : Plant) (I : Index) (starts' postings' : List ℕ) (r : Tightened) : Type 0 where
+pub record TightenGives (P : Plant) (I : Index) (starts' postings' : List ℕ) (r : Result ℕ Refusal) : Type 0 where
   pub outcome : r ≡ outcome_of P I
-  pub number : tightened_number r ≡ tables_refusal P I
+  pub number : refused r ≡ tables_refusal P I
   pub left : tightened_length r ≡ length_of P I
   pub starts : starts' ≡ starts_after P I
   pub postings : postings' ≡ postings_after P I

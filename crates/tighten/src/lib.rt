@@ -4,41 +4,37 @@
 mod list;
 mod lists;
 
-ghost use Rattle.plant.specs.Plant.{plant};
+ghost use Rattle.plant.specs.Tables.{plant_of};
 ghost use Rattle.index.specs.Index.{index};
 ghost use Rattle.tighten.specs.Promises.{TightenGives};
 
 use crate::lists::tighten_lists;
-use index::clear;
+use index::{IndexTables, clear};
 use index_check::check;
+use plant::DeviceTables;
+use refusal::Refusal;
 
-// What becomes of an index: how many postings are left, or the number of the refusal.
-#[derive(Clone, Copy)]
-pub enum Tightened {
-    Made(usize),
-    Refused(u32),
-}
-
-// Tightens each list in its own room. Takes time in proportion to the tables. Entries that come free at the end of the postings become 0. A
-// refused index stays as it was.
+// Tightens each list in its own room, and gives how many postings are left. Takes time in proportion to the tables. Entries that come free at the
+// end of the postings become 0. A refused index stays as it was.
+// Kept: starts and postings one by one, here and in `tighten_lists` (`plant_search_tighten` lends them to be written, and the terms to be read).
 pub fn tighten(
-    last: &[u16],
-    root: &[u16],
-    level: &[u8],
+    plant: DeviceTables,
     terms: &[u16],
     starts: &mut [u32],
     postings: &mut [u32],
-) -> Tightened
+) -> Result<usize, Refusal>
     ensures { TightenGives
-        (plant last.now root.now level.now)
+        (plant_of plant.entry)
         (index terms.now starts.old postings.old)
         starts.new postings.new result }
 {
-    let refused = check(last, root, level, terms, starts, postings);
-    if refused != 0 {
-        return Tightened::Refused(refused);
-    }
-    let left = tighten_lists(last, terms, starts, postings);
+    let lent = IndexTables {
+        terms,
+        starts,
+        postings,
+    };
+    let branches = check(plant, lent)?;
+    let left = tighten_lists(branches, terms, starts, postings);
     clear(postings, left);
-    Tightened::Made(left)
+    Ok(left)
 }

@@ -2,13 +2,13 @@
 use Prim.Native.Nat.{ℕ, ◌≤◌, ◌<◌}
 use mathlib.Core.Path.{◌≡◌}
 use mathlib.Core.Bool.{true, false}
-use mathlib.Core.List.{List, []}
+use mathlib.Core.List.{List}
 use Rattle.laws.proofs.Cases.{either}
 use Rattle.laws.proofs.Tests.{tests, flags}
 use Rattle.index.specs.Index.{list}
 use Rattle.index.specs.Lookup as one
 use Rattle.index.specs.Lookup.{Numbered}
-use Rattle.index.proofs.Lookup.{looked_none, looked_some}
+use Rattle.index.proofs.Lookup.{looked_some}
 use Rattle.two_indexes.specs.Indexes.{Indexes, in_second, home, list_of}
 use Rattle.two_indexes.specs.Lookup.{Looked}
 use Rattle.two_indexes.specs.inner.Rising.{Rise}
@@ -22,9 +22,6 @@ module _ (S : Indexes) {t : ℕ} {r : List ℕ} where
   looked_second h l = let e : in_second t ≡ true = simp tests (omega flags) in looked_home S (rw e l)
 
   module _ {number : ℕ} (h : t < 32_768) (n : Numbered S.first.terms t number) where
-    pub looked_absent : number ≡ 0 → r ≡ [] → Looked S t r
-    looked_absent z p = let e : in_second t ≡ false = simp tests (omega flags) in looked_home S (rw e (looked_none {I = S.first} n z p))
-
     pub looked_first : (number ≡ 0 → ⊥) → r ≡ list S.first number → Looked S t r
     looked_first z p = let e : in_second t ≡ false = simp tests (omega flags) in looked_home S (rw e (looked_some {I = S.first} n z p))
 

@@ -1,3 +1,4 @@
 pub mod Indexes
+pub mod Tables
 pub mod Lookup
 pub mod inner

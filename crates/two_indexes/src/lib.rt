@@ -4,5 +4,12 @@
 mod lookup;
 mod refusals;
 
-pub use lookup::list_of;
+use index::IndexTables;
 pub use refusals::check;
+
+// The tables of two indexes that a caller lends.
+#[derive(Clone, Copy)]
+pub struct TwoIndexes<'a> {
+    pub first: IndexTables<'a>,
+    pub second: IndexTables<'a>,
+}

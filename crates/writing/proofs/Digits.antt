@@ -5,9 +5,8 @@ use mathlib.Core.Bool.{true, false}
 use native.Mathlib.Omega.{arith}
 use native.Mathlib.Nat.{one-le-pow}
 use native.Mathlib.Numerals.{add-one}
-use mir.Val.{bool_byte}
-use borrow.Author.Tests.{lt-ltb, le-ltb, le-leb, lt-leb}
-use lib.Dec.{leb, ltb}
+use borrow.Author.Tests.{le-leb, lt-leb}
+use lib.Dec.{leb}
 use lib.ListN.{length, length-append}
 use Rattle.laws.specs.Search.{tally}
 use Rattle.laws.proofs.Cases.{by_order}
@@ -36,12 +35,9 @@ digits_one n h = rw (numeral_one n h)
 pub digits_between : (k n : ℕ) → 10 ^ k ≤ n → n < 10 ^ suc k → suc k ≡ length (numeral n)
 digits_between k n l u = let a = numeral_short k n u in let b = numeral_long k n l in omega arith
 
--- a comparison as a number
-pub above_is : (n m : ℕ) → Above n m (bool_byte (ltb m n))
-above_is n m =
-    by_order m n
-    (λ l. let e : ltb m n ≡ true = lt-ltb m n l in rw e (record { yes = λ _. refl; no = λ h. absurd (omega arith); few = omega arith }))
-    (λ l. let e : ltb m n ≡ false = le-ltb m n l in rw e (record { yes = λ h. absurd (omega arith); no = λ _. refl; few = omega arith }))
+-- and one more than its logarithm
+pub digits_log : (n k : ℕ) → 10 ^ k ≤ n → n < 10 * 10 ^ k → k + 1 ≡ length (numeral n)
+digits_log n k l u = rw add-one (digits_between k n l (omega arith))
 
 -- one digit, and one for each power that the number is not below
 powers : ℕ → ℕ → ℕ
@@ -87,25 +83,6 @@ digits_compared {n} a b c d e f g h i l =
     let p₉ = powers_more 8 _ p₈ refl i in
     let z = digits_powers n 9 l in
     omega arith
-
--- a loop that counts the digits of n has seen that n reaches the power, 10 to the k
-pub record Reaches (n power k : ℕ) : Type 0 where
-  pub is : power ≡ 10 ^ k
-  pub long : k < length (numeral n)
-  pub few : k < power
-  pub low : k ≤ n / 10
-
-module _ {n : ℕ} where
-  pub reaches_one : Reaches n 1 0
-  reaches_one = record { is = refl; long = numeral_some n; few = omega arith; low = omega arith }
-
-  pub reaches_more : {power k : ℕ} → Reaches n power k → power ≤ n / 10 → Reaches n (power * 10) (k + 1)
-  reaches_more {power} {k} r h =
-      let e : power * 10 ≡ 10 ^ (k + 1) = rw add-one (omega (arith, r.is)) in
-      record { is = e; long = numeral_long (k + 1) n (omega arith); few = omega (arith, r.few); low = omega (arith, r.few) }
-
-  pub reaches_end : {power k : ℕ} → Reaches n power k → n / 10 < power → k + 1 ≡ length (numeral n)
-  reaches_end {power} {k} r h = omega (arith, r.long, numeral_short k n (omega (arith, r.is)))
 
 -- ---- the digits in a number of places
 

@@ -4,13 +4,15 @@ use mathlib.Core.Path.{◌≡◌, refl, sym, ◌∙◌}
 use mathlib.Core.Bool.{Bool, true, false, cond}
 use mathlib.Core.List.{List, [], ◌∷◌, ◌++◌}
 use Rattle.laws.specs.Front.{until}
-use Rattle.laws.proofs.Cases.{split_cond}
+use Rattle.std.specs.Prelude.{Some}
+use Rattle.std.proofs.lemmas.Option.{same_Some}
 use Rattle.text.specs.Decimal.{numeral}
 use Rattle.text.specs.Patterns.{bytes, any_number, fit, fit_after}
 use Rattle.text.specs.Forms.{other, plain, with_number, form, pattern_of, spelled}
 use Rattle.text.specs.declared.Fit.{Fit}
 use Rattle.text.specs.declared.Form.{Form}
 use Rattle.text.proofs.Known.{literal}
+use Rattle.text.proofs.Forms.{split_fitted}
 use Rattle.text.proofs.Spelling.{fill_alone, fill_number, fits_number, fits_alone, fits_spells, Plain, plain_literal, plain_number}
 use Rattle.plant_text.specs.Form.{plant_line, device_line, term_line, own_line, all_line, close_line, rows}
 use Rattle.plant_text.proofs.Lexing.{form_dev, form_mark, form_own, form_all}
@@ -81,26 +83,30 @@ pub record Spelt (l : List ℕ) (f : Form) : Type 0 where
   pub written : Written f
   pub is : l ≡ spelled rows f
 
-alone_row : (l w : List ℕ) (kind : ℕ) → literal w ≡ true → Written (plain kind) → spelled rows (plain kind) ≡ w → (fit w l).fits ≡ true →
-    Spelt l (record { kind = kind; before = (fit w l).before; number = (fit w l).number })
-alone_row l w kind e x q h = let a = fits_alone w l e h in rw a.1 (record { written = x; is = a.0 ∙ sym q })
+alone_row : (l w : List ℕ) (kind : ℕ) → literal w ≡ true → Written (plain kind) → spelled rows (plain kind) ≡ w → (f : Fit) → fit w l ≡ Some f →
+    Spelt l (record { kind = kind; before = f.before; number = f.number })
+alone_row l w kind e x q f h =
+    let a = fits_alone w l e (rw h) in
+    let z = same_Some _ _ (sym h ∙ a.1) in
+    rw z (record { written = x; is = a.0 ∙ sym q })
 
 number_row : (l w ending : List ℕ) (kind : ℕ) → literal w ≡ true → literal ending ≡ true → ((n : ℕ) → Written (with_number kind n)) →
-    ((n : ℕ) → spelled rows (with_number kind n) ≡ w ++ (numeral n ++ ending)) → (f : Fit) → f ≡ fit (w ++ (any_number ∷ ending)) l → f.fits ≡ true →
+    ((n : ℕ) → spelled rows (with_number kind n) ≡ w ++ (numeral n ++ ending)) → (f : Fit) → fit (w ++ (any_number ∷ ending)) l ≡ Some f →
     Spelt l (record { kind = kind; before = f.before; number = f.number })
-number_row l w ending kind e g x q f s h =
-    let a = fits_spells w ending l e g (rw s at h) in
-    rw (s, a.same) (record { written = x a.value; is = a.is ∙ sym (q a.value) })
+number_row l w ending kind e g x q f h =
+    let a = fits_spells w ending l e g (rw h) in
+    let z = same_Some _ _ (sym h ∙ a.same) in
+    rw z (record { written = x a.value; is = a.is ∙ sym (q a.value) })
 
 pub reads_spelled : (l : List ℕ) → ((form rows l).kind ≡ other → ⊥) → Spelt l (form rows l)
 unfolding form literal bytes
 reads_spelled l =
-    split_cond F (fit (bytes "(plant") l).fits (λ e n. alone_row l (bytes "(plant") plant_line refl plant plant_is e)
-    (λ e. split_cond F (fit (bytes "(dev #") l).fits (λ e n. number_row l (bytes "(dev ") [] device_line refl refl device device_is (fit (bytes "(dev #") l) refl e)
-    (λ e. split_cond F (fit (bytes "(mark #") l).fits (λ e n. number_row l (bytes "(mark ") [] term_line refl refl term term_is (fit (bytes "(mark #") l) refl e)
-    (λ e. split_cond F (fit (bytes "(own #)") l).fits (λ e n. number_row l (bytes "(own ") (bytes ")") own_line refl refl own own_is (fit (bytes "(own #)") l) refl e)
-    (λ e. split_cond F (fit (bytes "(all #)") l).fits (λ e n. number_row l (bytes "(all ") (bytes ")") all_line refl refl all all_is (fit (bytes "(all #)") l) refl e)
-    (λ e. split_cond F (fit (bytes ")") l).fits (λ e n. alone_row l (bytes ")") close_line refl close close_is e) (λ e n. absurd (n refl)))))))
+    split_fitted F plant_line (fit (bytes "(plant") l) (λ f e n. alone_row l (bytes "(plant") plant_line refl plant plant_is f e)
+    (λ e. split_fitted F device_line (fit (bytes "(dev #") l) (λ f e n. number_row l (bytes "(dev ") [] device_line refl refl device device_is f e)
+    (λ e. split_fitted F term_line (fit (bytes "(mark #") l) (λ f e n. number_row l (bytes "(mark ") [] term_line refl refl term term_is f e)
+    (λ e. split_fitted F own_line (fit (bytes "(own #)") l) (λ f e n. number_row l (bytes "(own ") (bytes ")") own_line refl refl own own_is f e)
+    (λ e. split_fitted F all_line (fit (bytes "(all #)") l) (λ f e n. number_row l (bytes "(all ") (bytes ")") all_line refl refl all all_is f e)
+    (λ e. split_fitted F close_line (fit (bytes ")") l) (λ f e n. alone_row l (bytes ")") close_line refl close close_is f e) (λ e n. absurd (n refl)))))))
   where
     F : Form → Type 0
     F f = (f.kind ≡ other → ⊥) → Spelt l f

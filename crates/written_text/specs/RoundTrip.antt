@@ -1,10 +1,9 @@
 -- "Reading the text into tables with room returns the same entries, and writing what was read returns the same bytes."
-use Rattle.std.specs.Prelude.{ℕ, ◌≤◌, ◌≡◌, List, length, take}
+use Rattle.std.specs.Prelude.{ℕ, ◌≤◌, ◌≡◌, List, length, take, Ok}
 use Rattle.laws.specs.Lent.{filled}
 use Rattle.plant.specs.Plant.{Plant, plant, size}
 use Rattle.index.specs.Index.{Index, index, count}
-use Rattle.plant_text.specs.PlantText.{outcome_after, plant_after, index_after}
-use Rattle.plant_text.specs.declared.Outcome.TheVariants as outcome
+use Rattle.plant_text.specs.PlantText.{counts, outcome_after, plant_after, index_after}
 use Rattle.written_text.specs.Text.{text_of}
 use Rattle.written_text.specs.Refusals.{write_refusal}
 
@@ -19,7 +18,7 @@ pub record HasRoom (P : Plant) (I : Index) (P' : Plant) (I' : Index) : Type 0 wh
 
 -- a text that is read into P' and I' makes exactly the entries of P and I, and zeros behind them
 pub record Reads (text : List ℕ) (P' : Plant) (I' : Index) (P : Plant) (I : Index) : Type 0 where
-  pub counts : outcome_after text P' I' ≡ outcome.Made (size P) (count I) (length I.postings)
+  pub counts : outcome_after text P' I' ≡ Ok (counts (size P) (count I) (length I.postings))
   pub devices : plant_after text P' I' ≡ plant (filled (length P'.last) P.last) (filled (length P'.root) P.root) (filled (length P'.level) P.level)
   pub lists : index_after text P' I'
       ≡ index (filled (length I'.terms) I.terms) (filled (length I'.starts) I.starts) (filled (length I'.postings) I.postings)
@@ -42,7 +41,7 @@ pub record Rewritten (text : List ℕ) (P : Plant) (I : Index) (room : ℕ) : Ty
 
 -- a text that is read into any tables P' and I', and makes P and I of their first entries, is written again as it was
 abbrev pub WritesBack : Plant → Index → ℕ → Type 0
-WritesBack P I room = (text : List ℕ) (P' : Plant) (I' : Index) (d n p : ℕ) → outcome_after text P' I' ≡ outcome.Made d n p →
+WritesBack P I room = (text : List ℕ) (P' : Plant) (I' : Index) (d n p : ℕ) → outcome_after text P' I' ≡ Ok (counts d n p) →
     first_devices d (plant_after text P' I') ≡ P → first_lists n p (index_after text P' I') ≡ I → Rewritten text P I room
 
 -- both, for a buffer of so many bytes

@@ -1,12 +1,19 @@
--- `index_check::any_misplaced` meets its contract: no list so far has a misplaced posting.
+-- `index_check::any_misplaced` meets its contract: the closure tells of each list what its definition does.
+use Prim.Native.Nat.{ℕ, ◌+◌}
+use mathlib.Core.Path.{refl, ◌∙◌}
 use native.Mathlib.Omega.{arith}
-use Rattle.index.proofs.Starts.{over_found, over_end}
+use lib.ListN.{length}
+use Rattle.std.proofs.Common.{rules}
+use Rattle.std.proofs.lemmas.Iterator.{YieldsList-from_range}
+use Rattle.std.proofs.lemmas.Iterator.Search.{any_from_yields_List}
+use Rattle.index.specs.Index.{misplaced_in}
+use Rattle.index.specs.Tables.{index_of}
+use Rattle.laws.proofs.Listed.{any_counted}
 use Rattle.index_check.proofs.any_misplaced.Goals as goal
-
-pub returns-then-misplaced_in : goal.returns-then-misplaced_in
-returns-then-misplaced_in c =
-    over_found c.loop-k.invariant (omega arith) c.list_at.ensures c.misplaced_in.ensures c.if-misplaced_in.true
 
 pub returns : goal.returns
 returns c =
-    over_end c.loop-k.invariant (omega arith)
+    let n = length c.args.index.starts.now in
+    let test = λ (k : ℕ). misplaced_in c.args.most (index_of c.args.index) k in
+    any_from_yields_List (λ i. test (i + 1)) _ _ _ c.any.ensures.ran (YieldsList-from_range 0 n n refl (omega arith))
+    (λ x b q k. (search rules, search rules)) ∙ any_counted test n

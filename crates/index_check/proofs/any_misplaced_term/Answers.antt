@@ -6,8 +6,8 @@ use Rattle.index_check.proofs.any_misplaced_term.Goals as goal
 
 pub returns-then-term-before : goal.returns-then-term-before
 returns-then-term-before c =
-    let h = c.loop-k.invariant in pass_found h (omega arith) (misplaced_low highest_term h c.if-term-before.true)
+    let h = c.loop-term.invariant in pass_found h (omega arith) (misplaced_low highest_term h c.if-term-before.true)
 
 pub returns : goal.returns
 returns c =
-    pass_end c.loop-k.invariant (omega arith)
+    pass_end c.loop-term.invariant (omega arith)

@@ -1,36 +1,34 @@
 -- `index_check::check` meets its contract: the device tables refuse, or the index's own rows tell.
-use Prim.Native.Nat.{ℕ}
-use mathlib.Core.Path.{◌≡◌, sym, ◌∙◌}
-use Rattle.plant.specs.Plant.{Plant, plant, plant_refusal}
-use Rattle.index.specs.Index.{Index, index, index_rows, tables_refusal}
-use Rattle.index.proofs.Accepted.{branches_held}
-use Rattle.laws.proofs.Rows.{refused_first, refused_next}
-use Rattle.index_check.proofs.check.Goals.{Start}
+use mathlib.Core.Path.{◌≡◌, sym, ap, ◌∙◌}
+use Rattle.std.proofs.lemmas.Result.{err_from_is_err_and}
+use Rattle.index.specs.Index.{index_rows, tables_refusal}
+use Rattle.index.specs.Tables.{index_of}
+use Rattle.refusal.specs.Numbers.{number, refused}
+use Rattle.refusal.proofs.Numbers.{first_refuses, first_passes, row_mapped}
+use Rattle.index_check.proofs.check.Goals.{After-map_err}
 use Rattle.index_check.proofs.check.Goals as goal
 
-module _ (P : Plant) (I : Index) {r : ℕ} (e : r ≡ plant_refusal P) where
-  refused : (r ≡ 0 → ⊥) → r ≡ tables_refusal P I
-  unfolding tables_refusal
-  refused = refused_first (plant_refusal P) (index_rows 5 P.last I) e
+pub returns-in_err-branches-clause-refusal : goal.returns-in_err-branches-clause-refusal
+unfolding tables_refusal
+returns-in_err-branches-clause-refusal c =
+    let p = err_from_is_err_and c.from_residual.result c.from_residual.ensures.1 in
+    rw (p.1, p.2) (first_refuses c.in_err-branches.field-0.0 _ c.in_err-branches.ensures.refusal)
 
-  told : {n : ℕ} → r ≡ 0 → n ≡ index_rows 5 P.last I → n ≡ tables_refusal P I
-  unfolding tables_refusal
-  told = refused_next (plant_refusal P) (index_rows 5 P.last I) e
+-- what the index's own rows come to
+told : (c : After-map_err) → refused c.map_err.result ≡ index_rows 5 c.args.plant.last.now (index_of c.args.index)
+told c =
+    rw (← c.in_ok-branches.ensures.branches)
+    (row_mapped 5 c.rows.result c.map_err.result c.map_err.ensures.cases (λ row e h. ap number h) ∙ c.rows.ensures 5)
 
-abbrev plant_of : Start → Plant
-plant_of s = plant s.args.last.now s.args.root.now s.args.level.now
+pub returns-in_err-map_err-clause-refusal : goal.returns-in_err-map_err-clause-refusal
+unfolding tables_refusal
+returns-in_err-map_err-clause-refusal c =
+    let p = err_from_is_err_and c.from_residual-in_err-map_err.result c.from_residual-in_err-map_err.ensures.1 in
+    rw (p.1, p.2) (first_passes _ c.in_ok-branches.ensures.refusal
+    (ap refused (sym c.in_err-map_err.was) ∙ told (goal.at.returns-in_err-map_err-clause-refusal c).After-map_err))
 
-abbrev index_of : Start → Index
-index_of s = index s.args.terms.now s.args.starts.now s.args.postings.now
-
-pub returns-then-refused-ne0 : goal.returns-then-refused-ne0
-returns-then-refused-ne0 c =
-    refused (plant_of (goal.at.returns-then-refused-ne0 c).Start) (index_of (goal.at.returns-then-refused-ne0 c).Start) c.check-refused.ensures c.if-refused-ne0.true
-
-pub rows-requires : goal.rows-requires
-rows-requires c =
-    branches_held (plant_of (goal.at.rows-requires c).Start) (sym c.check-refused.ensures ∙ c.if-refused-ne0.false)
-
-pub returns : goal.returns
-returns c =
-    told (plant_of (goal.at.returns c).Start) (index_of (goal.at.returns c).Start) c.check-refused.ensures c.if-refused-ne0.false c.rows.ensures
+pub returns-clause-refusal : goal.returns-clause-refusal
+unfolding tables_refusal
+returns-clause-refusal c =
+    first_passes _ c.in_ok-branches.ensures.refusal
+    (ap refused (sym c.in_ok-map_err.was) ∙ told (goal.at.returns-clause-refusal c).After-map_err)

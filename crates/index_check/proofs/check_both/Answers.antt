@@ -1,17 +1,31 @@
 -- `index_check::check_both` meets its contract: the tables or the first index refuse, or the second's own rows tell.
-use mathlib.Core.Path.{sym, ◌∙◌}
-use Rattle.plant.specs.Plant.{Plant, plant}
-use Rattle.index.specs.Index.{Index, index}
-use Rattle.index.proofs.Accepted.{accepted, branches_held}
-use Rattle.index_check.proofs.check_both.Goals.{Start}
+use mathlib.Core.Path.{◌≡◌, sym, ap, ◌∙◌}
+use Rattle.std.proofs.lemmas.Result.{err_from_is_err_and}
+use Rattle.index.specs.Index.{index_rows}
+use Rattle.index.specs.Tables.{index_of}
+use Rattle.refusal.specs.Numbers.{number, refused}
+use Rattle.refusal.proofs.Numbers.{first_refuses, first_passes, row_mapped}
+use Rattle.index_check.proofs.check_both.Goals.{After-map_err}
 use Rattle.index_check.proofs.check_both.Goals as goal
 
-abbrev P : Start → Plant
-P s = plant s.args.last.now s.args.root.now s.args.level.now
+pub returns-in_err-branches-clause-refusal : goal.returns-in_err-branches-clause-refusal
+returns-in_err-branches-clause-refusal c =
+    let p = err_from_is_err_and c.from_residual.result c.from_residual.ensures.1 in
+    rw (p.1, p.2) (first_refuses c.in_err-branches.field-0.0 _ c.in_err-branches.ensures.refusal)
 
-abbrev I : Start → Index
-I s = index s.args.terms.now s.args.starts.now s.args.postings.now
+-- what the second index's own rows come to
+told : (c : After-map_err) → refused c.map_err.result ≡ index_rows 55 c.args.plant.last.now (index_of c.args.second)
+told c =
+    rw (← c.in_ok-branches.ensures.branches)
+    (row_mapped 55 c.rows.result c.map_err.result c.map_err.ensures.cases (λ row e h. ap number h) ∙ c.rows.ensures 55)
 
-pub rows-requires : goal.rows-requires
-rows-requires c =
-    branches_held (P (goal.at.rows-requires c).Start) (accepted (P (goal.at.rows-requires c).Start) (I (goal.at.rows-requires c).Start) (sym c.check-refused.ensures ∙ c.if-refused-ne0.false)).tables
+pub returns-in_err-map_err-clause-refusal : goal.returns-in_err-map_err-clause-refusal
+returns-in_err-map_err-clause-refusal c =
+    let p = err_from_is_err_and c.from_residual-in_err-map_err.result c.from_residual-in_err-map_err.ensures.1 in
+    rw (p.1, p.2) (first_passes _ c.in_ok-branches.ensures.refusal
+    (ap refused (sym c.in_err-map_err.was) ∙ told (goal.at.returns-in_err-map_err-clause-refusal c).After-map_err))
+
+pub returns-clause-refusal : goal.returns-clause-refusal
+returns-clause-refusal c =
+    first_passes _ c.in_ok-branches.ensures.refusal
+    (ap refused (sym c.in_ok-map_err.was) ∙ told (goal.at.returns-clause-refusal c).After-map_err)

@@ -1,18 +1,17 @@
--- `index_check::outside_in` meets its contract: no device so far is out of range.
-use Prim.Native.Nat.{◌+◌}
-use native.Mathlib.Omega.{arith}
+-- `index_check::outside_in` meets its contract: the closure tells at each posting whether its device is out of range.
+use Prim.Native.Nat.{ℕ}
+use mathlib.Core.Path.{◌∙◌}
+use mathlib.Core.Bool.{◌||◌}
+use lib.Dec.{ltb, eqb}
+use Rattle.std.proofs.Common.{rules}
+use borrow.Author.Tests.{tests}
+use Rattle.std.proofs.lemmas.Iterator.{YieldsList-from_slice}
+use Rattle.std.proofs.lemmas.Iterator.Search.{any_from_yields_List}
 use Rattle.index.specs.Postings.{device}
-use Rattle.laws.proofs.Tests.{tests, flags}
-use Rattle.laws.proofs.Cases.{cases}
-use Rattle.laws.proofs.Search.{any_found, any_none}
-use Rattle.index.proofs.Lists.{here}
+use Rattle.laws.proofs.Listed.{any_listed}
 use Rattle.index_check.proofs.outside_in.Goals as goal
-
-pub returns-then-d-eq0 : goal.returns-then-d-eq0
-returns-then-d-eq0 c =
-    let e = here device c.args.list.now c.loop-k.k in
-    any_found _ (c.loop-k.k + 1) (omega arith) (cases c.then-d-eq0.either (λ w. simp tests (omega flags)) (λ w. simp tests (omega flags)))
 
 pub returns : goal.returns
 returns c =
-    any_none _ (λ i a b. c.loop-k.invariant.1 i a (omega arith))
+    let out = λ (q : ℕ). eqb (device q) 0 || ltb c.args.most (device q) in
+    any_from_yields_List out _ _ _ c.any.ensures.ran (YieldsList-from_slice c.args.list.now cc) (λ x b q k. (search rules, search (rules, tests))) ∙ any_listed out c.args.list.now

@@ -7,6 +7,3 @@ use Rattle.plant.proofs.any_fault.Given as goal
 
 abbrev pub invariant-loop-d : goal.invariant-loop-d
 invariant-loop-d l = (l.d ≤ length l.last) × None (faulty l.last) l.d (length l.last)
-
-abbrev pub decreases-loop-d : goal.decreases-loop-d
-decreases-loop-d l = l.d

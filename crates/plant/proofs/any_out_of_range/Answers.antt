@@ -1,16 +1,14 @@
--- `plant::any_out_of_range` meets its contract: no device up to d is out of range.
-use Prim.Native.Nat.{◌+◌}
-use native.Mathlib.Omega.{arith}
-use Rattle.laws.proofs.Tests.{tests, flags}
-use Rattle.laws.proofs.Cases.{cases}
-use Rattle.laws.proofs.Search.{any_found, any_none}
+-- `plant::any_out_of_range` meets its contract: the chain asks each device by its index.
+use Rattle.std.proofs.Common.{rules, ◌+◌, ◌∙◌, length, arith, refl}
+use borrow.Author.Tests.{tests}
+use Rattle.std.proofs.lemmas.Iterator.{YieldsList-from_range}
+use Rattle.std.proofs.lemmas.Iterator.Search.{any_from_yields_List}
+use Rattle.plant.specs.Plant.{out_of_range}
+use Rattle.laws.proofs.Listed.{any_counted}
 use Rattle.plant.proofs.any_out_of_range.Goals as goal
-
-pub returns-then-end-d : goal.returns-then-end-d
-returns-then-end-d c =
-    any_found _ (c.loop-d.d + 1) (omega arith)
-    (cases c.then-end-d.either (λ w. simp tests (omega flags)) (λ w. simp tests (omega flags)))
 
 pub returns : goal.returns
 returns c =
-    any_none _ (λ e l u. c.loop-d.invariant.1 e l (omega arith))
+    let l = c.args.last.now in
+    any_from_yields_List (λ i. out_of_range l (i + 1)) _ _ _ c.any.ensures.ran (YieldsList-from_range 0 (length l) (length l) refl (omega arith))
+    (λ x b q k. search (rules, tests)) ∙ any_counted (out_of_range l) (length l)

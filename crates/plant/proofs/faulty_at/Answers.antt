@@ -1,6 +1,6 @@
 -- `plant::faulty_at` meets its contract: between d and the next child, every branch ends within d's branch.
 use borrow.Author.Rules.{rules}
-use Rattle.plant.proofs.Branches.{children_found, children_turn, children_end}
+use Rattle.plant.proofs.Faults.{children_found, children_turn, children_end}
 use Rattle.plant.proofs.faulty_at.Goals as goal
 
 pub returns-then-end-child_end : goal.returns-then-end-child_end

@@ -1,6 +1,6 @@
 -- `plant::faulty_at` meets its contract: between d and the next child, every branch ends within d's branch.
 use Prim.Native.Nat.{◌+◌, ◌-◌}
-use Rattle.plant.proofs.Branches.{Children}
+use Rattle.plant.proofs.Faults.{Children}
 use Rattle.plant.proofs.faulty_at.Given as goal
 
 abbrev pub invariant-loop-child : goal.invariant-loop-child

@@ -1,39 +1,55 @@
 -- `plant_text::read_all` meets its contract.
-use Rattle.plant_text.proofs.Whole.{all_20, all_start, all_devices, all_terms, all_after, all_made}
+use Rattle.std.proofs.lemmas.Result.{err_from_is_err_and}
+use Rattle.plant.specs.Plant.{plant}
+use Rattle.index.specs.Index.{index}
+use Rattle.plant_text.proofs.Whole.{all_20, all_start, listed_reads, terms_reads, all_after, all_made}
 use Rattle.plant_text.proofs.read_all.Goals as goal
 
 pub returns-then-text-gt65536 : goal.returns-then-text-gt65536
-returns-then-text-gt65536 c = record { reads = all_20 c.if-text-gt65536.true }
+returns-then-text-gt65536 c = record { reads = all_20 c.args.room c.args.text.now c.if-text-gt65536.true }
 
-pub returns-then-x-ne0 : goal.returns-then-x-ne0
-returns-then-x-ne0 c = record {
-  reads = all_start c.args.text.now c.args.room c.if-text-gt65536.false c.line_at-first.ensures c.kind_refusal-x.ensures c.if-x-ne0.true;
-}
+pub returns-in_err-check_kind : goal.returns-in_err-check_kind
+returns-in_err-check_kind c =
+    let a = c.args in
+    let p = err_from_is_err_and c.from_residual.result c.from_residual.ensures.1 in
+    record { reads = rw (p.1, p.2) (all_start a.text.now a.room c.if-text-gt65536.false c.line_at-first.ensures c.in_err-check_kind.ensures) }
 
-pub returns-in-Refused : goal.returns-in-Refused
-returns-in-Refused c = record {
-  reads =
-      all_devices c.args.text.now c.args.room c.if-text-gt65536.false c.line_at-first.ensures c.kind_refusal-x.ensures c.if-x-ne0.false
-      c.devices.ensures.reads c.in-Refused.is;
-}
+pub returns-in_err-form : goal.returns-in_err-form
+returns-in_err-form c =
+    let a = c.args in
+    let p = err_from_is_err_and c.from_residual-in_err-form.result c.from_residual-in_err-form.ensures.1 in
+    record {
+      reads =
+          rw (p.1, p.2)
+          (listed_reads a.text.now a.room c.if-text-gt65536.false c.line_at-first.ensures c.in_ok-check_kind.ensures (plant a.last.now a.root.now a.level.now)
+          c.in_err-form.ensures.reads);
+    }
 
-pub returns-in-Refused-read_terms : goal.returns-in-Refused-read_terms
-returns-in-Refused-read_terms c = record {
-  reads =
-      all_terms c.args.text.now c.args.room c.if-text-gt65536.false c.line_at-first.ensures c.kind_refusal-x.ensures c.if-x-ne0.false
-      c.devices.ensures.reads c.in-Stopped.is c.read_terms.ensures.reads c.in-Refused-read_terms.is;
-}
+pub returns-in_err-count : goal.returns-in_err-count
+returns-in_err-count c =
+    let a = c.args in
+    let p = err_from_is_err_and c.from_residual-in_err-count.result c.from_residual-in_err-count.ensures.1 in
+    record {
+      reads =
+          rw (p.1, p.2)
+          (terms_reads a.text.now a.room c.if-text-gt65536.false c.line_at-first.ensures c.in_ok-check_kind.ensures (plant a.last.now a.root.now a.level.now)
+          c.in_ok-form.ensures.reads (index a.terms.now a.starts.now a.postings.now) c.in_err-count.ensures.reads);
+    }
 
 pub returns-then-end-text : goal.returns-then-end-text
-returns-then-end-text c = record {
-  reads =
-      all_after c.args.text.now c.args.room c.if-text-gt65536.false c.line_at-first.ensures c.kind_refusal-x.ensures c.if-x-ne0.false
-      c.devices.ensures.reads c.in-Stopped.is c.read_terms.ensures.reads c.in-Closed.is c.if-end-text.true;
-}
+returns-then-end-text c =
+    let a = c.args in
+    record {
+      reads =
+          all_after a.text.now a.room c.if-text-gt65536.false c.line_at-first.ensures c.in_ok-check_kind.ensures (plant a.last.now a.root.now a.level.now)
+          c.in_ok-form.ensures.reads (index a.terms.now a.starts.now a.postings.now) c.in_ok-count.ensures.reads c.if-end-text.true;
+    }
 
-pub returns-else-end-text : goal.returns-else-end-text
-returns-else-end-text c = record {
-  reads =
-      all_made c.args.text.now c.args.room c.if-text-gt65536.false c.line_at-first.ensures c.kind_refusal-x.ensures c.if-x-ne0.false
-      c.devices.ensures.reads c.in-Stopped.is c.read_terms.ensures.reads c.in-Closed.is c.if-end-text.false;
-}
+pub returns : goal.returns
+returns c =
+    let a = c.args in
+    record {
+      reads =
+          all_made a.text.now a.room c.if-text-gt65536.false c.line_at-first.ensures c.in_ok-check_kind.ensures (plant a.last.now a.root.now a.level.now)
+          c.in_ok-form.ensures.reads (index a.terms.now a.starts.now a.postings.now) c.in_ok-count.ensures.reads c.if-end-text.false;
+    }

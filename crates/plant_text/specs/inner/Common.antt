@@ -1,20 +1,8 @@
--- What the reader finds of a common line without its table. The contracts of private functions alone cite this.
-use Rattle.std.specs.Prelude.{ℕ, ◌+◌, ◌*◌, ◌<◌, ◌≤◌, ◌≡◌, List, length, get_or}
+-- What the reader finds of a common line's bytes. The contracts of private functions alone cite this.
+use Rattle.std.specs.Prelude.{ℕ, ◌+◌, ◌*◌, ◌≤◌, ◌≡◌, List, length, get_or}
 use Rattle.laws.specs.Limits.{highest_term}
 use Rattle.text.specs.Decimal.{number_at}
-use Rattle.text.specs.Forms.{plain}
-use Rattle.text.specs.inner.Finding.{found_at}
-use Rattle.text.specs.declared.Found.{Found}
-use Rattle.plant_text.specs.Form.{close_line, rows}
 use Rattle.plant_text.specs.declared.common.Start.{Start}
-
--- the line at an index, or, where the next is said to begin at 0, nothing
-pub record Common (t : List ℕ) (at : ℕ) (r : Found) : Type 0 where
-  pub found : 0 < r.next → r ≡ found_at highest_term rows t at
-
--- a closing bracket at an index, after which the next line begins; or, where it is said to begin at 0, nothing
-pub record Closes (t : List ℕ) (at next : ℕ) : Type 0 where
-  pub found : 0 < next → record { form = plain close_line; next = next } ≡ found_at highest_term rows t at
 
 -- four bytes of a text as one number
 pub record Four (t : List ℕ) (at r : ℕ) : Type 0 where
@@ -31,7 +19,4 @@ pub record Bracketed (t : List ℕ) (at skip : ℕ) (r : Start) : Type 0 where
   pub word : Four t (at + 1) r.word
   pub number : record { value = r.value; end = r.end } ≡ number_at highest_term t (at + skip)
   pub there : r.end ≡ at + skip → ⊥
-
-pub record Started (t : List ℕ) (at skip : ℕ) (r : Start) : Type 0 where
-  pub opens : (r.end ≡ 0 → ⊥) → Bracketed t at skip r
   pub within : r.end ≤ length t

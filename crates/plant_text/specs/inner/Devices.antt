@@ -1,20 +1,17 @@
 -- What the readers of devices promise: what the rest of a text comes to, for every stack of open devices. The contracts of private functions
 -- alone cite this.
-use Rattle.std.specs.Prelude.{ℕ, ◌≤◌, ◌≡◌, cond, List, [], eqb, length, take, drop, set}
+use Rattle.std.specs.Prelude.{ℕ, ◌≤◌, ◌≡◌, List, [], length, take, drop, set, Option, unwrap_or, Result, MatchResult}
 use Rattle.plant.specs.Plant as plants
 use Rattle.index.specs.Index.{index}
 use Rattle.text.specs.Forms.{unfinished}
-use Rattle.text.specs.Reading.{Read, no}
+use Rattle.text.specs.Reading.{Read}
 use Rattle.text.specs.declared.Form.{Form}
 use Rattle.plant_text.specs.Form.{device_line}
 use Rattle.plant_text.specs.PlantText.{State, devices, outermost}
-use Rattle.plant_text.specs.inner.Rest.{from, from_form, with_number, ReadingAt, Bounded}
+use Rattle.plant_text.specs.inner.Rest.{from, from_form, with_number, ReadingAt, Bounded, refused_by}
 use Rattle.plant_text.specs.declared.Room.{Room}
 use Rattle.plant_text.specs.declared.lines.Place.{Place}
-use Rattle.plant_text.specs.declared.lines.Ending.{Ending}
-use Rattle.plant_text.specs.declared.lines.Ending.TheVariants as ending
-use Rattle.plant_text.specs.declared.devices.Listed.{Listed}
-use Rattle.plant_text.specs.declared.devices.Listed.TheVariants as listed
+use Rattle.text.specs.declared.Refused.{Refused}
 
 -- the first entries of lent device tables
 abbrev pub front : ℕ → plants.Plant → plants.Plant
@@ -30,10 +27,10 @@ pub record Fits (r : Room) (T : plants.Plant) : Type 0 where
 abbrev pub devices_made : plants.Plant → ℕ → List ℕ → State
 devices_made T count stack = record { stage = devices; opened = stack; plant = front count T; index = index [] [] [] }
 
--- the number of open devices, and the outermost of them
-pub record Stack (stack : List ℕ) (depth top : ℕ) : Type 0 where
+-- the number of open devices, and the outermost of them, if any is open
+pub record Stack (stack : List ℕ) (depth : ℕ) (top : Option ℕ) : Type 0 where
   pub size : length stack ≡ depth
-  pub outer : (d : ℕ) → outermost stack d ≡ cond (eqb depth 0) d top
+  pub outer : (d : ℕ) → outermost stack d ≡ unwrap_or top d
 
 -- the tables where device count + 1 of level n opens below the outermost device out, and where it closes at device c
 abbrev pub opened_at : plants.Plant → ℕ → ℕ → ℕ → plants.Plant
@@ -50,7 +47,7 @@ abbrev pub at_form : Room → List ℕ → plants.Plant → Form → Place → L
 at_form r t T f p stack = from_form r (devices_made T p.count stack) f p.line (drop p.at t)
 
 -- two readings are the same with any stack of open devices that has this depth and this outermost device
-pub record Same (depth top : ℕ) (a b : List ℕ → Read State) : Type 0 where
+pub record Same (depth : ℕ) (top : Option ℕ) (a b : List ℕ → Read State) : Type 0 where
   pub same : (stack : List ℕ) → Stack stack depth top → a stack ≡ b stack
 
 -- where a list of devices may be read from
@@ -66,14 +63,14 @@ pub record DeviceStart (r : Room) (t : List ℕ) (T : plants.Plant) (p : Place) 
   pub past : p.line ≤ p.at
 
 -- the reading A of what begins at one place goes on at another
-pub record DevicesAt (r : Room) (t : List ℕ) (depth top : ℕ) (A : List ℕ → Read State) (since : Place) (T : plants.Plant) (p : Place) : Type 0 where
+pub record DevicesAt (r : Room) (t : List ℕ) (depth : ℕ) (top : Option ℕ) (A : List ℕ → Read State) (since : Place) (T : plants.Plant) (p : Place) : Type 0 where
   pub reads : Same depth top A (from_device r t T p)
   pub start : ListStart r t T p
   pub onward : since.at ≤ p.at
   pub more : since.count ≤ p.count
 
 -- it goes on up to a line that is not a device's
-pub record Stops (r : Room) (t : List ℕ) (depth top : ℕ) (A : List ℕ → Read State) (since : Place) (T : plants.Plant) (f : Form) (p : Place) : Type 0 where
+pub record Stops (r : Room) (t : List ℕ) (depth : ℕ) (top : Option ℕ) (A : List ℕ → Read State) (since : Place) (T : plants.Plant) (f : Form) (p : Place) : Type 0 where
   pub reads : Same depth top A (at_form r t T f p)
   pub no_device : f.kind ≡ device_line → ⊥
   pub start : ListStart r t T p
@@ -82,17 +79,13 @@ pub record Stops (r : Room) (t : List ℕ) (depth top : ℕ) (A : List ℕ → R
   pub more : since.count ≤ p.count
 
 -- the device of level n that opens at the line of a place is read
-abbrev pub DeviceResult : Room → List ℕ → plants.Plant → ℕ → Place → ℕ → ℕ → plants.Plant → Ending → Type 0
-DeviceResult r t T n p depth top T' (ending.Refused x l) = Same depth top (at_form r t T (with_number device_line n) p) (λ stack. no x l)
-DeviceResult r t T n p depth top T' (ending.Ended q) = DevicesAt r t depth top (at_form r t T (with_number device_line n) p) p T' q
-
-pub record DeviceRead (r : Room) (t : List ℕ) (T : plants.Plant) (n : ℕ) (p : Place) (depth top : ℕ) (T' : plants.Plant) (e : Ending) : Type 0 where
-  pub result : DeviceResult r t T n p depth top T' e
+abbrev pub DeviceRead : Room → List ℕ → plants.Plant → ℕ → Place → ℕ → Option ℕ → plants.Plant → Result Place Refused → Type 0
+DeviceRead r t T n p depth top T' e =
+    let A = at_form r t T (with_number device_line n) p in
+    MatchResult e (DevicesAt r t depth top A p T') (λ x. Same depth top A (λ stack. refused_by x))
 
 -- a list of devices is read from a place on
-abbrev pub ListResult : Room → List ℕ → plants.Plant → Place → ℕ → ℕ → plants.Plant → Listed → Type 0
-ListResult r t T p depth top T' (listed.Refused x l) = Same depth top (from_device r t T p) (λ stack. no x l)
-ListResult r t T p depth top T' (listed.Stopped f q) = Stops r t depth top (from_device r t T p) p T' f q
-
-pub record ListRead (r : Room) (t : List ℕ) (T : plants.Plant) (p : Place) (depth top : ℕ) (T' : plants.Plant) (e : Listed) : Type 0 where
-  pub result : ListResult r t T p depth top T' e
+abbrev pub ListRead : Room → List ℕ → plants.Plant → Place → ℕ → Option ℕ → plants.Plant → Result (Form × Place) Refused → Type 0
+ListRead r t T p depth top T' e =
+    let A = from_device r t T p in
+    MatchResult e (λ q. Stops r t depth top A p T' q.0 q.1) (λ x. Same depth top A (λ stack. refused_by x))

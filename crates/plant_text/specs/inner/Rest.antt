@@ -1,12 +1,14 @@
 -- What the reader's functions promise one another: what is left of a reading, and where it is. The contracts of private functions alone cite
 -- this.
-use Rattle.std.specs.Prelude.{ℕ, ◌+◌, ◌≤◌, not, List, eqb, length}
+use Rattle.std.specs.Prelude.{ℕ, ◌+◌, ◌≤◌, ◌≡◌, not, List, eqb, length, Result, MatchResult}
 use Rattle.laws.specs.Limits.{most_devices, highest_term}
 use Rattle.laws.specs.Rows.{pick}
 use Rattle.index.specs.Index.{most_terms, most_postings}
 use Rattle.text.specs.Forms.{unfinished}
-use Rattle.text.specs.Reading.{Read, and_then, reading_forms}
+use Rattle.text.specs.Reading.{Read, no, and_then, reading_forms}
 use Rattle.text.specs.declared.Form.{Form}
+use Rattle.text.specs.declared.Refused.{Refused}
+use Rattle.refusal.specs.Numbers.{number}
 use Rattle.plant_text.specs.Form.{rows}
 use Rattle.plant_text.specs.PlantText.{longest_text, State, is, closed, step}
 use Rattle.plant_text.specs.declared.Room.{Room}
@@ -47,3 +49,16 @@ pub record Bounded (r : Room) : Type 0 where
 -- why a line of a kind is not taken where only the kind that is due may stand, or 0 where it is of that kind: rows 24 and 21
 abbrev pub kind_refusal : ℕ → ℕ → ℕ
 kind_refusal due kind = pick (eqb kind unfinished) 24 (pick (not (eqb kind due)) 21 0)
+
+-- a refusal is of a number, at a line
+pub record Tells (x line : ℕ) (e : Refused) : Type 0 where
+  pub number_is : number e.refusal ≡ x
+  pub line_is : e.line ≡ line
+
+-- a test's answer: it passes where the refusal is 0, and else refuses a line by it
+abbrev pub Taken : {T : Type 0} → ℕ → ℕ → Result T Refused → Type 0
+Taken x line r = MatchResult r (λ _. x ≡ 0) (Tells x line)
+
+-- what a refused text comes to
+abbrev pub refused_by : Refused → Read State
+refused_by e = no (number e.refusal) e.line

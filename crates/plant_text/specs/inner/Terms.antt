@@ -1,5 +1,5 @@
 -- What the readers of terms and postings promise. The contracts of private functions alone cite this.
-use Rattle.std.specs.Prelude.{ℕ, ◌+◌, ◌≤◌, ◌≡◌, List, [], length, take, drop}
+use Rattle.std.specs.Prelude.{ℕ, ◌+◌, ◌≤◌, ◌≡◌, List, [], length, take, drop, Result, MatchResult}
 use Rattle.std.proofs.Math.Seq.{slice}
 use Rattle.laws.specs.Tables.{entry}
 use Rattle.plant.specs.Plant as plants
@@ -7,17 +7,18 @@ use Rattle.index.specs.Index as indexes
 use Rattle.index.specs.Index.{index}
 use Rattle.index.specs.inner.Lists.{SoundList}
 use Rattle.text.specs.Forms.{unfinished}
-use Rattle.text.specs.Reading.{Read, no}
+use Rattle.text.specs.Reading.{Read}
 use Rattle.text.specs.declared.Form.{Form}
 use Rattle.plant_text.specs.Form.{term_line}
 use Rattle.plant_text.specs.PlantText.{Stage, State, terms, postings, closed, line_refusal, next}
-use Rattle.plant_text.specs.inner.Rest.{from, from_form, with_number, ReadingAt, Bounded}
+use Rattle.plant_text.specs.inner.Rest.{from, from_form, with_number, ReadingAt, Bounded, Tells, refused_by}
 use Rattle.plant_text.specs.declared.Room.{Room}
 use Rattle.plant_text.specs.declared.lines.Place.{Place}
-use Rattle.plant_text.specs.declared.lines.Ending.{Ending}
-use Rattle.plant_text.specs.declared.lines.Ending.TheVariants as ending
-use Rattle.plant_text.specs.declared.terms.Closing.{Closing}
-use Rattle.plant_text.specs.declared.terms.Closing.TheVariants as closing
+use Rattle.text.specs.declared.Refused.{Refused}
+
+-- the newest entry of a list, or 0 where it is empty
+abbrev pub newest : List ℕ → ℕ
+newest l = entry l (length l)
 
 -- what is made in a term, after what m has, with n postings in their table
 abbrev pub posts_made : State → List ℕ → ℕ → Stage → State
@@ -29,13 +30,17 @@ pub record Before (last : List ℕ) (count begin : ℕ) (m : State) : Type 0 whe
   pub even : length m.index.starts ≡ length m.index.terms
   pub begun : entry m.index.starts (length m.index.terms) ≡ begin
 
--- a posting of a kind for device d is added, or refused by the number x
-pub record Adds (r : Room) (last posts : List ℕ) (count begin n kind d : ℕ) (posts' : List ℕ) (x : ℕ) : Type 0 where
-  pub refusal_is : (m : State) → Before last count begin m → line_refusal r (posts_made m posts n postings) (with_number kind d) ≡ x
-  pub adds : x ≡ 0 → (m : State) → next (posts_made m posts n postings) (with_number kind d) ≡ posts_made m posts' (n + 1) postings
+-- a posting of a kind for device d is added
+pub record Adds (r : Room) (last posts : List ℕ) (count begin n kind d : ℕ) (posts' : List ℕ) : Type 0 where
+  pub taken : (m : State) → Before last count begin m → line_refusal r (posts_made m posts n postings) (with_number kind d) ≡ 0
+  pub adds : (m : State) → next (posts_made m posts n postings) (with_number kind d) ≡ posts_made m posts' (n + 1) postings
   pub fits : r.postings ≤ length posts'
-  pub holds : x ≡ 0 → n + 1 ≤ r.postings
-  pub sound : x ≡ 0 → SoundList (take count last) (slice begin (n + 1) posts')
+  pub holds : n + 1 ≤ r.postings
+  pub sound : SoundList (take count last) (slice begin (n + 1) posts')
+
+-- or refused at its line
+pub record Bars (r : Room) (last posts : List ℕ) (count begin n kind d line : ℕ) (e : Refused) : Type 0 where
+  pub tells : (m : State) → Before last count begin m → Tells (line_refusal r (posts_made m posts n postings) (with_number kind d)) line e
 
 -- what reading comes to from a place on
 abbrev pub from_posting : Room → List ℕ → Stage → List ℕ → Place → State → Read State
@@ -63,14 +68,10 @@ pub record PostsAt (r : Room) (t last : List ℕ) (count begin : ℕ) (A : State
   pub sound : SoundList (take count last) (slice begin p.count posts)
 
 -- a term's postings are read from a place on
-abbrev pub PostsResult : Room → List ℕ → List ℕ → List ℕ → Place → ℕ → List ℕ → Ending → Type 0
-PostsResult r t last posts p count posts' (ending.Refused x l) =
-    SamePosts last count p.count (from_posting r t postings posts p) (λ m. no x l)
-PostsResult r t last posts p count posts' (ending.Ended q) =
-    PostsAt r t last count p.count (from_posting r t postings posts p) (p.at + 1) terms posts' q
-
-pub record PostsRead (r : Room) (t last posts : List ℕ) (p : Place) (count : ℕ) (posts' : List ℕ) (e : Ending) : Type 0 where
-  pub result : PostsResult r t last posts p count posts' e
+abbrev pub PostsRead : Room → List ℕ → List ℕ → List ℕ → Place → ℕ → List ℕ → Result Place Refused → Type 0
+PostsRead r t last posts p count posts' e =
+    let A = from_posting r t postings posts p in
+    MatchResult e (PostsAt r t last count p.count A (p.at + 1) terms posts') (λ x. SamePosts last count p.count A (λ m. refused_by x))
 
 -- the first entries of lent index tables: n terms, p postings
 abbrev pub part : ℕ → ℕ → indexes.Index → indexes.Index
@@ -86,15 +87,19 @@ pub record FitsIndex (r : Room) (X : indexes.Index) : Type 0 where
 abbrev pub terms_made : plants.Plant → indexes.Index → ℕ → ℕ → Stage → State
 terms_made P X n p s = record { stage = s; opened = []; plant = P; index = part n p X }
 
--- term n + 1 of number v opens, with p postings before it, or is refused by the number x
-pub record OpensTerm (r : Room) (T S : List ℕ) (n p v : ℕ) (T' S' : List ℕ) (x : ℕ) : Type 0 where
-  pub refusal_is : (P : plants.Plant) (L : List ℕ) → line_refusal r (terms_made P (index T S L) n p terms) (with_number term_line v) ≡ x
-  pub opens : x ≡ 0 → (P : plants.Plant) (L : List ℕ) → p ≤ length L →
+-- term n + 1 of number v opens, with p postings before it
+pub record OpensTerm (r : Room) (T S : List ℕ) (n p v : ℕ) (T' S' : List ℕ) : Type 0 where
+  pub taken : (P : plants.Plant) (L : List ℕ) → line_refusal r (terms_made P (index T S L) n p terms) (with_number term_line v) ≡ 0
+  pub opens : (P : plants.Plant) (L : List ℕ) → p ≤ length L →
       next (terms_made P (index T S L) n p terms) (with_number term_line v) ≡ terms_made P (index T' S' L) (n + 1) p postings
   pub terms : r.terms ≤ length T'
   pub starts : r.terms ≤ length S'
-  pub holds : x ≡ 0 → n + 1 ≤ r.terms
-  pub begun : x ≡ 0 → entry (take (n + 1) S') (n + 1) ≡ p
+  pub holds : n + 1 ≤ r.terms
+  pub begun : entry (take (n + 1) S') (n + 1) ≡ p
+
+-- or is refused at its line
+pub record BarsTerm (r : Room) (T S : List ℕ) (n p v line : ℕ) (e : Refused) : Type 0 where
+  pub tells : (P : plants.Plant) (L : List ℕ) → Tells (line_refusal r (terms_made P (index T S L) n p terms) (with_number term_line v)) line e
 
 -- two readings are the same for every plant with these last numbers
 pub record SameTerms (last : List ℕ) (count : ℕ) (a b : plants.Plant → Read State) : Type 0 where
@@ -124,12 +129,10 @@ abbrev pub none_at : Place → Place
 none_at p = record { at = p.at; line = p.line; count = 0 }
 
 -- terms are read from a line of a form on, in a plant of as many devices as a place counts
-abbrev pub TermsResult : Room → List ℕ → List ℕ → indexes.Index → Form → Place → indexes.Index → Closing → Type 0
-TermsResult r t last X f p X' (closing.Refused x l) = SameTerms last p.count (at_term r t X f 0 (none_at p)) (λ P. no x l)
-TermsResult r t last X f p X' (closing.Closed n q) = ClosedAt r t last p.count (at_term r t X f 0 (none_at p)) X' n q
-
-pub record TermsRead (r : Room) (t last : List ℕ) (X : indexes.Index) (f : Form) (p : Place) (X' : indexes.Index) (e : Closing) : Type 0 where
-  pub result : TermsResult r t last X f p X' e
+abbrev pub TermsRead : Room → List ℕ → List ℕ → indexes.Index → Form → Place → indexes.Index → Result (ℕ × Place) Refused → Type 0
+TermsRead r t last X f p X' e =
+    let A = at_term r t X f 0 (none_at p) in
+    MatchResult e (λ q. ClosedAt r t last p.count A X' q.0 q.1) (λ x. SameTerms last p.count A (λ P. refused_by x))
 
 -- where terms may be read from
 pub record TermsStart (r : Room) (t last : List ℕ) (X : indexes.Index) (f : Form) (p : Place) : Type 0 where

@@ -4,8 +4,8 @@ use lib.ListN.{length}
 use Rattle.query_text.proofs.Turns.{Reads}
 use Rattle.query_text.proofs.read.Given as goal
 
-abbrev pub invariant-loop-draft : goal.invariant-loop-draft
-invariant-loop-draft l = Reads l.text l.draft l.at l.line
+abbrev pub invariant-loop-form : goal.invariant-loop-form
+invariant-loop-form l = Reads l.text l.draft l.at l.line
 
-abbrev pub decreases-loop-draft : goal.decreases-loop-draft
-decreases-loop-draft l = length l.text - l.at
+abbrev pub decreases-loop-form : goal.decreases-loop-form
+decreases-loop-form l = length l.text - l.at

@@ -4,7 +4,6 @@ use Rattle.laws.specs.Search.{any}
 use Rattle.laws.specs.Tables.{entry}
 use Rattle.index.specs.Postings.{device, reach, outside}
 use Rattle.index.specs.Index.{Index, count, list}
-use Rattle.index.specs.inner.Lists.{Held}
 use Rattle.index.specs.inner.Outlined.{Outlined}
 use Rattle.repair.specs.Refusals.{falls}
 
@@ -21,9 +20,8 @@ pub record Fit (n : ℕ) (l : List ℕ) : Type 0 where
   pub last : (k : ℕ) → 1 ≤ k → k ≤ length l → device (entry l k) ≤ n
   pub sorted : (i k : ℕ) → 1 ≤ i → i ≤ k → k ≤ length l → device (entry l i) ≤ device (entry l k)
 
--- an index of which no row before 44 says anything, on a plant whose branches hold their devices
+-- an index of which no row before 44 says anything
 pub record Repairable (last : List ℕ) (I : Index) : Type 0 where
-  pub held : Held last
   pub outline : Outlined I
   pub ordered : any (count I) (astray_in last I) ≡ false
 

@@ -1,12 +1,7 @@
--- `text::fits` meets its contract: the first i bytes of the pattern fit.
-use Rattle.text.proofs.Patterns.{scan_fits, scan_long}
-use borrow.Author.Rules.{rules}
+-- `text::fits` meets its contract: the bytes of the pattern so far fit.
+use Rattle.text.proofs.Patterns.{scan_is}
 use Rattle.text.proofs.fits.Goals as goal
-
-pub returns-then-is_end_at : goal.returns-then-is_end_at
-returns-then-is_end_at c =
-    search (scan_fits, rules)
 
 pub returns : goal.returns
 returns c =
-    search (scan_long, rules)
+    scan_is c.loop-p.invariant c.loop-p-test.false c.is_end_at.ensures c.then_some.ensures

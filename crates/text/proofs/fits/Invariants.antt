@@ -1,11 +1,6 @@
--- `text::fits` meets its contract: the first i bytes of the pattern fit.
-use Prim.Native.Nat.{◌-◌}
-use lib.ListN.{length}
+-- `text::fits` meets its contract: the bytes of the pattern so far fit.
 use Rattle.text.proofs.Patterns.{Scanned}
 use Rattle.text.proofs.fits.Given as goal
 
-abbrev pub invariant-loop-i : goal.invariant-loop-i
-invariant-loop-i l = Scanned l.limit l.text l.at l.pattern l.scan l.i
-
-abbrev pub decreases-loop-i : goal.decreases-loop-i
-decreases-loop-i l = length l.pattern - l.i
+abbrev pub invariant-loop-p : goal.invariant-loop-p
+invariant-loop-p l = Scanned l.limit l.text l.at l.pattern l.scan l.p-index

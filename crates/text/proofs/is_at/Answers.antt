@@ -1,8 +1,7 @@
 -- `text::is_at` meets its contract.
-use Rattle.text.proofs.Lines.{begins_past}
-use borrow.Author.Rules.{rules}
+use Rattle.text.proofs.Lines.{begins_from}
 use Rattle.text.proofs.is_at.Goals as goal
 
-pub returns-then-text-at : goal.returns-then-text-at
-returns-then-text-at c =
-    search (begins_past, rules)
+pub returns : goal.returns
+returns c =
+    begins_from _ _ _ c.min.ensures c.starts_with.ensures.value

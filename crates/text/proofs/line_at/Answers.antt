@@ -1,9 +1,14 @@
 -- `text::line_at` meets its contract.
-use native.Mathlib.Omega.{arith}
-use Rattle.text.proofs.Lines.{ends_within}
+use Rattle.std.proofs.Common.{sym, rules}
+use Rattle.text.proofs.Forms.{ends_whole, ends_tail}
 use Rattle.text.proofs.line_at.Goals as goal
 
-pub overflow_add-end : goal.overflow_add-end
-overflow_add-end c =
-    let a = c.args in
-    omega (arith, ends_within a.text.now a.at c.least-from.ensures c.find.ensures)
+pub returns-in-Some : goal.returns-in-Some
+returns-in-Some c =
+    let w = ends_whole _ _ c.args.form c.min-from.ensures (sym c.in-Some.ensures) in
+    record { form = w.0; next = w.1 }
+
+pub returns-in-None : goal.returns-in-None
+returns-in-None c =
+    let w = ends_tail _ _ c.args.form c.min-from.ensures (sym c.in-None.ensures) in
+    record { form = search rules; next = w.1 }

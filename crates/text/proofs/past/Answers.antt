@@ -1,12 +1,7 @@
 -- `text::past` meets its contract.
-use Rattle.text.proofs.Patterns.{past_is, past_not}
-use borrow.Author.Rules.{rules}
+use Rattle.text.proofs.Patterns.{past_byte_is}
 use Rattle.text.proofs.past.Goals as goal
-
-pub returns-then-is_byte_at : goal.returns-then-is_byte_at
-returns-then-is_byte_at c =
-    search (past_is, rules)
 
 pub returns : goal.returns
 returns c =
-    search (past_not, rules)
+    past_byte_is _ _ _ c.requires _ c.if-p-eq35.false c.is_byte_at.ensures c.then_some.ensures

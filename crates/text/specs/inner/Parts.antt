@@ -1,5 +1,5 @@
 -- Parts of numbers and patterns. The contracts of private functions alone cite this.
-use Rattle.std.specs.Prelude.{ℕ, ◌+◌, ◌≤◌, ◌≡◌, true, false, cond, List, ◌∷◌, length, get_or}
+use Rattle.std.specs.Prelude.{ℕ, ◌+◌, ◌≤◌, ◌≡◌, cond, List, ◌∷◌, length, get_or, Option, MatchOption}
 use Rattle.text.specs.Lines.{line_at}
 use Rattle.text.specs.Decimal.{digit}
 use Rattle.text.specs.Patterns.{fit_after, misfit, capped_fit}
@@ -17,15 +17,14 @@ pub record On (limit : ℕ) (t : List ℕ) (s : Scan) : Type 0 where
   pub low : s.before ≤ limit + 1
   pub lower : s.number ≤ limit + 1
 
-abbrev pub no_scan : Scan
-no_scan = record { fits = false; before = 0; number = 0; at = 0 }
-
 -- what the line that goes on at a scan's index comes to, against what is left of a pattern
-abbrev pub left_of : ℕ → List ℕ → List ℕ → Scan → Fit
+abbrev pub left_of : ℕ → List ℕ → List ℕ → Scan → Option Fit
 left_of limit t ps s = capped_fit limit (fit_after s.before s.number ps (line_at t s.at))
 
 -- past the byte p of a pattern: the rest of it against the rest of the line, or that the line does not fit
-pub record Past (limit : ℕ) (t : List ℕ) (p : ℕ) (s r : Scan) : Type 0 where
-  pub goes_on : r.fits ≡ true → (ps : List ℕ) → left_of limit t (p ∷ ps) s ≡ left_of limit t ps r
-  pub stops : r.fits ≡ false → (ps : List ℕ) → left_of limit t (p ∷ ps) s ≡ misfit
+pub record Goes (limit : ℕ) (t : List ℕ) (p : ℕ) (s r : Scan) : Type 0 where
+  pub goes_on : (ps : List ℕ) → left_of limit t (p ∷ ps) s ≡ left_of limit t ps r
   pub on : On limit t r
+
+abbrev pub Past : ℕ → List ℕ → ℕ → Scan → Option Scan → Type 0
+Past limit t p s r = MatchOption r ((ps : List ℕ) → left_of limit t (p ∷ ps) s ≡ misfit) (λ r. Goes limit t p s r)

@@ -1,6 +1,5 @@
 -- Branches, and lists that can be tightened. The contracts of private functions alone cite this.
 use Rattle.std.specs.Prelude.{ℕ, ◌≤◌, Bool, List, length}
-use Rattle.laws.specs.Limits.{most_devices}
 use Rattle.laws.specs.Search.{any}
 use Rattle.laws.specs.Tables.{entry}
 use Rattle.index.specs.Postings.{carries}
@@ -16,13 +15,6 @@ carried last l d = any (length l) (λ k. carries last (entry l k) d)
 -- the tight list of the k-th
 abbrev pub tight_of : List ℕ → Index → ℕ → List ℕ
 tight_of last I k = tight last (carried last (list I k))
-
--- the branches of a plant: each holds its device, ends in the plant, and holds the branches of its devices
-pub record Forest (last : List ℕ) : Type 0 where
-  pub few : length last ≤ most_devices
-  pub own : (d : ℕ) → 1 ≤ d → d ≤ length last → d ≤ entry last d
-  pub inner : (d : ℕ) → 1 ≤ d → d ≤ length last → entry last d ≤ length last
-  pub nested : (d e : ℕ) → 1 ≤ d → d ≤ length last → d ≤ e → e ≤ entry last d → entry last e ≤ entry last d
 
 -- an index of which no row says anything
 pub record SoundLists (last : List ℕ) (I : Index) : Type 0 where

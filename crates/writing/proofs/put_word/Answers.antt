@@ -1,5 +1,5 @@
--- `put_word` meets its contract: after i turns the first i bytes of the word are stored.
-use borrow.Author.Rules.{rules}
+-- `put_word` meets its contract: the first i bytes of the word are stored.
+use Rattle.std.proofs.Common.{rules}
 use Rattle.writing.proofs.Writing.{word_more}
 use Rattle.writing.proofs.put_word.Goals as goal
 

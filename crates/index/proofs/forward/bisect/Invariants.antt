@@ -5,7 +5,7 @@ use Rattle.index.specs.Around.{Around}
 use Rattle.index.proofs.forward.bisect.Given as goal
 
 abbrev pub invariant-loop-low : goal.invariant-loop-low
-invariant-loop-low l = Around device l.list l.from l.end l.target l.low l.high
+invariant-loop-low l = Around device l.list l.fn.part.start l.fn.part.end l.target l.low l.high
 
 abbrev pub decreases-loop-low : goal.decreases-loop-low
 decreases-loop-low l = l.high - l.low

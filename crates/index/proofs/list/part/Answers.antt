@@ -5,4 +5,4 @@ use Rattle.index.proofs.list.part.Goals as goal
 pub returns : goal.returns
 returns c =
     let s = c.args in
-    slice_part s.start s.end s.table.now c.least-to.ensures c.least-from.ensures
+    slice_part s.start s.end s.table.now c.min-to.ensures c.min-from.ensures

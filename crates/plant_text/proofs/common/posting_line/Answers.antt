@@ -3,6 +3,4 @@ use Rattle.plant_text.proofs.Lexing.{common_posting}
 use Rattle.plant_text.proofs.common.posting_line.Goals as goal
 
 pub returns : goal.returns
-returns c =
-    common_posting c.start_at-start.ensures c.if-end-eq0.false c.is_at.ensures (rw c.if-not-is_at.false) c.posting_kind-kind.ensures c.if-kind-eq0.false
-    c.line_of.ensures
+returns c = common_posting c.in_ok-value.ensures c.is_at.ensures c.if-not-is_at.false c.posting_kind-kind.ensures c.if-kind-eq0.false c.line_of.ensures

@@ -16,11 +16,11 @@ loop-i-init t c = (search (rules, shallow_start), search rules)
 pub too_deep-requires : goal.too_deep-requires
 too_deep-requires t c =
     let s = c.loop-i.invariant.0 in
-    let z = c.end_of-end.ensures in
+    let z = c.from-end.ensures in
     (omega (arith, end_bounds s (omega arith) z, s.from), (first_nested s (omega arith) z, (first_depth s (omega arith) z, omega arith)))
 
 pub loop-i-smaller : goal.loop-i-smaller
-loop-i-smaller t c = omega (arith, end_bounds c.loop-i.invariant.0 (omega arith) c.end_of-end.ensures)
+loop-i-smaller t c = omega (arith, end_bounds c.loop-i.invariant.0 (omega arith) c.from-end.ensures)
 
 pub loop-i-preserved : goal.loop-i-preserved
 loop-i-preserved t c = (search (rules, shallow_turn), search rules)

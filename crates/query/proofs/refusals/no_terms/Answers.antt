@@ -1,16 +1,17 @@
--- `query::refusals::no_terms` meets its contract: none of the first k terms is wrong.
-use Prim.Native.Nat.{◌+◌}
-use Rattle.laws.proofs.Cases.{cases}
-use Rattle.laws.proofs.Search.{any_found, any_none}
-use Rattle.laws.proofs.Tests.{tests, flags}
-use native.Mathlib.Omega.{arith}
+-- `query::refusals::no_terms` meets its contract: the closure tells of each term whether it is none.
+use Prim.Native.Nat.{ℕ}
+use mathlib.Core.Path.{◌∙◌}
+use mathlib.Core.Bool.{◌||◌}
+use borrow.Author.Tests.{tests}
+use lib.Dec.{ltb, eqb}
+use Rattle.std.proofs.Common.{rules}
+use Rattle.std.proofs.lemmas.Iterator.{YieldsList-from_slice}
+use Rattle.std.proofs.lemmas.Iterator.Search.{any_from_yields_List}
+use Rattle.laws.specs.Limits.{highest_term}
+use Rattle.laws.proofs.Listed.{any_listed}
 use Rattle.query.proofs.refusals.no_terms.Goals as goal
-
-pub returns-then-term-eq0 : goal.returns-then-term-eq0
-returns-then-term-eq0 c =
-    any_found _ (c.loop-k.k + 1) (omega arith)
-    (cases c.then-term-eq0.either (λ w. simp tests (omega flags)) (λ w. simp tests (omega flags)))
 
 pub returns : goal.returns
 returns c =
-    any_none _ (λ e l u. c.loop-k.invariant.1 e l (omega arith))
+    let out = λ (t : ℕ). eqb t 0 || ltb highest_term t in
+    any_from_yields_List out _ _ _ c.any.ensures.ran (YieldsList-from_slice c.args.terms.now cc) (λ x b q k. (search rules, search (rules, tests))) ∙ any_listed out c.args.terms.now

@@ -1,38 +1,50 @@
 -- `repair::checks::judge` meets its contract: each return is the first row that applies.
-use Rattle.std.proofs.Common.{arith, sym, ◌∙◌}
-use Rattle.index.proofs.Accepted.{branches_held}
-use Rattle.index.proofs.Outline.{outline_none}
-use Rattle.repair.proofs.Rows.{judge_tables, judge_outline, judge_astray, judge_few, judge_short, judge_none}
+use Rattle.std.proofs.Common.{arith}
+use Rattle.std.proofs.lemmas.Result.{err_from_is_err_and}
+use Rattle.plant.specs.Tables.{plant_of}
+use Rattle.index.specs.Tables.{index_of}
+use Rattle.repair.proofs.Rows.{outlined, judge_tables, judge_outline, judge_astray, judge_few, judge_short, judge_none}
 use Rattle.repair.proofs.checks.judge.Goals as goal
 
-pub returns-then-refusal-ne0 : goal.returns-then-refusal-ne0
-returns-then-refusal-ne0 c = judge_tables _ _ _ c.check-refusal.ensures c.if-refusal-ne0.true
+pub returns-in_err-branches : goal.returns-in_err-branches
+returns-in_err-branches c =
+    let p = err_from_is_err_and c.from_residual.result c.from_residual.ensures.1 in
+    rw (p.1, p.2) (judge_tables _ _ _ c.in_err-branches.field-0.0 c.in_err-branches.ensures.refusal)
 
-pub returns-then-row-ne0 : goal.returns-then-row-ne0
-returns-then-row-ne0 c = judge_outline _ _ _ c.check-refusal.ensures c.if-refusal-ne0.false c.outline_row-row.ensures c.if-row-ne0.true
+pub returns-in_err-map_err : goal.returns-in_err-map_err
+returns-in_err-map_err c =
+    let p = err_from_is_err_and c.from_residual-in_err-map_err.result c.from_residual-in_err-map_err.ensures.1 in
+    rw (p.1, p.2) (
+    judge_outline _ (index_of c.args.index) _ c.in_ok-branches.ensures.refusal c.outline_row.result c.outline_row.ensures
+    c.in_err-map_err.field-0.0 c.in_err-map_err.ensures.cases)
 
-pub counted_of-counted-requires : goal.counted_of-counted-requires
-counted_of-counted-requires c = record {
-  held = branches_held _ (sym c.check-refusal.ensures ∙ c.if-refusal-ne0.false);
-  outlined = outline_none 5 _ 0 c.outline_row-row.ensures c.if-row-ne0.false;
+pub counted_of-requires : goal.counted_of-requires
+counted_of-requires c = record {
+  outlined =
+      outlined (plant_of c.args.plant) _ c.args.room c.in_ok-branches.ensures.refusal c.outline_row.result c.outline_row.ensures _
+      c.in_ok-map_err.ensures.cases;
 }
 
-pub returns-then-counted : goal.returns-then-counted
-returns-then-counted c =
-    let o = outline_none 5 _ 0 c.outline_row-row.ensures c.if-row-ne0.false in
-    judge_astray _ _ _ c.check-refusal.ensures c.if-refusal-ne0.false o c.counted_of-counted.ensures c.if-counted.true c.astray_row-refusal.ensures
+pub returns-in_default : goal.returns-in_default
+returns-in_default c =
+    let a = c.in_ok-branches.ensures in
+    judge_astray _ _ _ a.refusal c.outline_row.result c.outline_row.ensures _ c.in_ok-map_err.ensures.cases
+    (rw a.branches at c.in_default.ensures) c.astray_row.result c.astray_row.ensures
 
-pub overflow_sub-postings : goal.overflow_sub-postings
-overflow_sub-postings c =
-    let o = outline_none 5 _ 0 c.outline_row-row.ensures c.if-row-ne0.false in
-    judge_few _ _ c.args.room c.check-refusal.ensures c.if-refusal-ne0.false o c.counted_of-counted.ensures c.if-counted.false
+pub overflow_sub-index : goal.overflow_sub-index
+overflow_sub-index c =
+    let a = c.in_ok-branches.ensures in
+    judge_few (plant_of c.args.plant) _ c.args.room a.refusal c.outline_row.result c.outline_row.ensures _ c.in_ok-map_err.ensures.cases
+    (rw a.branches at c.in-Some.ensures)
 
-pub returns-then-room-postings : goal.returns-then-room-postings
-returns-then-room-postings c =
-    let o = outline_none 5 _ 0 c.outline_row-row.ensures c.if-row-ne0.false in
-    judge_short _ _ _ c.check-refusal.ensures c.if-refusal-ne0.false o c.counted_of-counted.ensures c.if-counted.false (omega arith)
+pub returns-then-room-index : goal.returns-then-room-index
+returns-then-room-index c =
+    let a = c.in_ok-branches.ensures in
+    judge_short _ _ _ a.refusal c.outline_row.result c.outline_row.ensures _ c.in_ok-map_err.ensures.cases
+    (rw a.branches at c.in-Some.ensures) (omega arith)
 
 pub returns : goal.returns
 returns c =
-    let o = outline_none 5 _ 0 c.outline_row-row.ensures c.if-row-ne0.false in
-    judge_none _ _ _ c.check-refusal.ensures c.if-refusal-ne0.false o c.counted_of-counted.ensures c.if-counted.false (omega arith)
+    let a = c.in_ok-branches.ensures in
+    judge_none _ _ _ a.refusal c.outline_row.result c.outline_row.ensures _ c.in_ok-map_err.ensures.cases
+    (rw a.branches at c.in-Some.ensures) _ a.branches (omega arith)

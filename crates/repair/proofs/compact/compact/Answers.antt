@@ -12,7 +12,6 @@ compact_list-filled-requires c =
     let e = c.start_at-end.ensures in
     let h = c.loop-k.invariant in
     record {
-      held = p.repairable.held;
       in_order = round_bounds p.repairable p.report_in_bounds h (omega arith) e;
       fit = round_fit p.repairable p.report_in_bounds h (omega arith) e;
       report_in_bounds = round_room p.repairable p.report_in_bounds h (omega arith) e;
@@ -21,5 +20,5 @@ compact_list-filled-requires c =
 pub loop-k-preserved : goal.loop-k-preserved
 loop-k-preserved c =
     let p = c.requires in
-    round_turn p.repairable p.report_in_bounds c.loop-k.invariant (omega arith) c.start_at-end.ensures c.narrow.ensures refl
-    c.u16_to_u32-term.ensures c.compact_list-filled.ensures
+    round_turn p.repairable p.report_in_bounds c.loop-k.invariant (omega arith) c.start_at-end.ensures refl refl
+    c.from.ensures c.compact_list-filled.ensures

@@ -5,7 +5,7 @@ use Rattle.repair.proofs.compact.compact_list.Given as goal
 
 abbrev pub invariant-loop-i : goal.invariant-loop-i
 invariant-loop-i l =
-    Course l.last l.initial.postings l.initial.report l.start l.end l.term l.initial.filled.postings l.initial.filled.report l.postings l.report l.filled l.reached l.i
+    Course l.branches.last.now l.initial.postings l.initial.report l.start l.end l.term l.initial.filled.postings l.initial.filled.report l.postings l.report l.filled l.reached l.i
 
 abbrev pub decreases-loop-i : goal.decreases-loop-i
 decreases-loop-i l = l.end - l.i

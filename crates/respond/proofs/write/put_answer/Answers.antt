@@ -5,7 +5,7 @@ use Rattle.respond.proofs.write.put_answer.Goals as goal
 
 pub returns-clause-puts : goal.returns-clause-puts
 returns-clause-puts c =
-    answer_put _ _ _ _ c.put_word-first.ensures c.put_devices-devices.ensures c.put_numbered-place.ensures c.put_numbered-next.ensures c.put_numbered-end.ensures
+    answer_put _ _ _ _ c.put_word-first.ensures c.put_devices-devices.ensures c.put_numbered-place.ensures.puts c.put_numbered-next.ensures.puts c.put_numbered-end.ensures.puts
     c.put_word.ensures
 
 pub returns-clause-few : goal.returns-clause-few

@@ -4,8 +4,8 @@ use lib.ListN.{length}
 use Rattle.search.proofs.BringByIndex.{Going}
 use Rattle.search.proofs.cursor.bring.Given as goal
 
-abbrev pub invariant-loop-at : goal.invariant-loop-at
-invariant-loop-at l = Going l.last l.root l.list l.p l.budget l.made l.skipped l.from l.at l.moves l.passed
+abbrev pub invariant-loop-q : goal.invariant-loop-q
+invariant-loop-q l = Going l.plant.last.now l.plant.root.now l.list l.p l.budget l.initial.at l.at l.initial.counts l.counts
 
-abbrev pub decreases-loop-at : goal.decreases-loop-at
-decreases-loop-at l = length l.list - l.at
+abbrev pub decreases-loop-q : goal.decreases-loop-q
+decreases-loop-q l = length l.list - l.at

@@ -1,30 +1,30 @@
 -- `search::lists::answered` meets its contract: the lists looked up are those that the query names.
-use mathlib.Core.Path.{refl}
 use native.Mathlib.Omega.{arith}
+use Rattle.std.proofs.Common.{length-take}
 use Rattle.two_indexes.proofs.Accepted.{accepted_rise}
+use Rattle.query.specs.Query.{used}
 use Rattle.search.proofs.Answers.{admitted, lists-fit, begins, run-ended}
 use Rattle.search.proofs.lists.answered.Goals as goal
 
-pub gather_all-count-requires-clause-count_bound : goal.gather_all-count-requires-clause-count_bound
-gather_all-count-requires-clause-count_bound c =
-    let k = (admitted _ _ _ _ c.requires).query.query in (k.few_required, k.few_forbidden, refl)
+pub shared_ref_as_front-required : goal.shared_ref_as_front-required
+shared_ref_as_front-required c = (admitted _ _ _ _ c.requires).query.query.few_required
 
-pub gather_all-count-requires-clause-rise : goal.gather_all-count-requires-clause-rise
-gather_all-count-requires-clause-rise c = accepted_rise _ _ (admitted _ _ _ _ c.requires).indexes
+pub shared_ref_as_front-forbidden : goal.shared_ref_as_front-forbidden
+shared_ref_as_front-forbidden c = (admitted _ _ _ _ c.requires).query.query.few_forbidden
 
-pub overflow_cast-end : goal.overflow_cast-end
-overflow_cast-end c = let t = (admitted _ _ _ _ c.requires).tables in omega arith
-
-pub overflow_add-end : goal.overflow_add-end
-overflow_add-end c = let t = (admitted _ _ _ _ c.requires).tables in omega arith
+pub gather-requires-clause-rise : goal.gather-requires-clause-rise
+gather-requires-clause-rise c = accepted_rise _ _ (admitted _ _ _ _ c.requires).indexes
 
 pub run-requires-clause-tables : goal.run-requires-clause-tables
 run-requires-clause-tables c =
     let r = admitted _ _ _ _ c.requires in
-    (r.tables, r.forest.levels, r.query.roomy, r.query.query.from_first, omega arith, omega arith)
+    (r.tables, r.forest.levels, r.query.roomy, r.query.query.from_first, r.query.query.to_end)
 
 pub run-requires-clause-lists : goal.run-requires-clause-lists
-run-requires-clause-lists c = lists-fit c.gather_all-count.ensures (admitted _ _ _ _ c.requires).list
+run-requires-clause-lists c =
+    let r = admitted _ _ _ _ c.requires in
+    let q = r.query.query in
+    lists-fit (used c.args.query.required) (used c.args.query.forbidden) c.gather.ensures (simp length-take (omega arith)) r.list
 
 pub returns : goal.returns
-returns c = run-ended _ _ c.args.query (begins c.gather_all-count.ensures) c.run.ensures
+returns c = run-ended _ _ c.args.query (begins (used c.args.query.required) (used c.args.query.forbidden) c.gather.ensures) c.run.ensures

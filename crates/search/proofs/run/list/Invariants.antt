@@ -1,5 +1,4 @@
 -- `search::run::list` meets its contract: the devices from d on give what the whole stretch gives.
-use Prim.Native.Nat.{◌+◌, ◌-◌}
 use Rattle.laws.specs.Tables.{entry}
 use Rattle.query.specs.Query.{wants}
 use Rattle.search.proofs.Written.{Filling}
@@ -7,6 +6,3 @@ use Rattle.search.proofs.run.list.Given as goal
 
 abbrev pub invariant-loop-d : goal.invariant-loop-d
 invariant-loop-d l = Filling (λ d. wants l.levels (entry l.level d)) l.from l.to l.initial.out l.count l.out l.d l.n
-
-abbrev pub decreases-loop-d : goal.decreases-loop-d
-decreases-loop-d l = l.to + 1 - l.d

@@ -8,7 +8,7 @@ use Rattle.search.proofs.run.run.Given as goal
 
 abbrev pub invariant-loop-position : goal.invariant-loop-position
 invariant-loop-position l =
-    Listed l.last l.root (λ d. wants l.levels (entry l.level d)) (map (λ x. x.now) l.lists) l.required l.end l.budget l.start l.initial.out l.positions l.out l.position l.passed l.moves l.count
+    Listed l.plant.last.now l.plant.root.now (λ d. wants l.query.levels (entry l.plant.level.now d)) (map (λ x. x.now) l.lists) l.required l.query.budget l.query.start l.initial.out l.positions l.out l.position l.count l.counts
 
 abbrev pub decreases-loop-position : goal.decreases-loop-position
 decreases-loop-position l = l.end - l.position

@@ -7,18 +7,17 @@ use Rattle.tighten.proofs.lists.tighten_lists.Goals as goal
 pub loop-k-init : goal.loop-k-init
 loop-k-init c = lay_start _ _ c.requires.sound_lists.outline
 
-pub tighten_list-made-requires : goal.tighten_list-made-requires
-tighten_list-made-requires c =
+pub tighten_list-made-requires-clause-bounds : goal.tighten_list-made-requires-clause-bounds
+tighten_list-made-requires-clause-bounds c =
     let p = c.requires in
-    let h = c.loop-k.invariant in
-    let e = c.start_at-end.ensures in
-    record {
-      forest = p.forest;
-      bounds = round_bounds p.forest p.sound_lists h (omega arith) e;
-      apart = round_apart p.forest p.sound_lists h (omega arith) e;
-    }
+    round_bounds c.args.branches.forest p.sound_lists c.loop-k.invariant (omega arith) c.start_at-end.ensures
+
+pub tighten_list-made-requires-clause-apart : goal.tighten_list-made-requires-clause-apart
+tighten_list-made-requires-clause-apart c =
+    let p = c.requires in
+    round_apart c.args.branches.forest p.sound_lists c.loop-k.invariant (omega arith) c.start_at-end.ensures
 
 pub loop-k-preserved : goal.loop-k-preserved
 loop-k-preserved c =
     let p = c.requires in
-    round_turn p.forest p.sound_lists c.loop-k.invariant (omega arith) c.start_at-end.ensures refl refl c.tighten_list-made.ensures
+    round_turn c.args.branches.forest p.sound_lists c.loop-k.invariant (omega arith) c.start_at-end.ensures refl refl c.tighten_list-made.ensures

@@ -1,6 +1,4 @@
 -- `tighten::lists::tighten_lists` meets its contract: the first k lists are tightened.
-use Prim.Native.Nat.{◌-◌}
-use lib.ListN.{length}
 use Rattle.index.specs.Index.{index}
 use Rattle.index.proofs.Laying.{Laying}
 use Rattle.tighten.specs.inner.Branches.{tight_of}
@@ -8,7 +6,4 @@ use Rattle.tighten.proofs.lists.tighten_lists.Given as goal
 
 abbrev pub invariant-loop-k : goal.invariant-loop-k
 invariant-loop-k l =
-    Laying (index l.terms l.initial.starts l.initial.postings) (tight_of l.last (index l.terms l.initial.starts l.initial.postings)) l.starts l.postings l.made l.start l.k
-
-abbrev pub decreases-loop-k : goal.decreases-loop-k
-decreases-loop-k l = length l.terms - l.k
+    Laying (index l.terms l.initial.starts l.initial.postings) (tight_of l.branches.last.now (index l.terms l.initial.starts l.initial.postings)) l.starts l.postings l.made l.start l.k

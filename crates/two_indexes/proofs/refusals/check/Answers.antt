@@ -1,20 +1,18 @@
 -- `two_indexes::refusals::check` meets its contract: the rows of both indexes tell, or else row 15.
-use mathlib.Core.Path.{◌∙◌}
-use Rattle.plant.specs.Plant.{Plant, plant}
-use Rattle.index.specs.Index.{index}
-use Rattle.two_indexes.specs.Indexes.{Indexes, indexes}
+use Rattle.std.proofs.lemmas.Result.{err_from_is_err_and}
+use Rattle.plant.specs.Tables.{plant_of}
+use Rattle.two_indexes.specs.Indexes.{indexes_refusal}
+use Rattle.two_indexes.specs.Tables.{indexes_of}
+use Rattle.refusal.proofs.Numbers.{first_refuses}
 use Rattle.two_indexes.proofs.Accepted.{refused}
-use Rattle.two_indexes.proofs.refusals.check.Goals.{Start}
 use Rattle.two_indexes.proofs.refusals.check.Goals as goal
 
-abbrev P : Start → Plant
-P s = plant s.args.last.now s.args.root.now s.args.level.now
-
-abbrev S : Start → Indexes
-S s = indexes
-    (index s.args.terms.now s.args.starts.now s.args.postings.now)
-    (index s.args.second_terms.now s.args.second_starts.now s.args.second_postings.now)
+pub returns-in_err-check_both : goal.returns-in_err-check_both
+unfolding indexes_refusal
+returns-in_err-check_both c =
+    let p = err_from_is_err_and c.from_residual.result c.from_residual.ensures.1 in
+    rw (p.1, p.2) (first_refuses c.in_err-check_both.field-0.0 _ c.in_err-check_both.ensures.refusal)
 
 pub returns : goal.returns
 returns c =
-    c.otherwise.ensures ∙ refused (P (goal.at.returns c).Start) (S (goal.at.returns c).Start) _ c.check_both-refused.ensures c.misfiled_row-misfiled.ensures
+    refused (plant_of c.args.plant) (indexes_of c.args.indexes) 0 c.in_ok-check_both.ensures.refusal c.check_homes.ensures

@@ -1,2 +1,0 @@
--- Laws of what is handed back.
-mod Handed
