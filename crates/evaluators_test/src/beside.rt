@@ -1,52 +1,23 @@
 // The slow evaluator beside an answer.
-use crate::cells::at8;
-use crate::numbers::{least, next, number, plus, wide8};
 use crate::slow::listing;
-use io::write_all;
+use index::IndexTables;
+use plant::DeviceTables;
+use std::alloc::{AllocError, Global};
+use std::io;
+use two_indexes::TwoIndexes;
 
-const STDOUT_FILENO: i32 = 1;
-
-use plant_text::Outcome;
-use query::Query;
-
-// The devices that match, from tables of which the first d, t and p entries are meant.
-fn listing_of_parts(
-    last: &[u16],
-    level: &[u8],
-    terms: &[u16],
-    starts: &[u32],
-    postings: &[u32],
-    made: Outcome,
-    query: Query,
-    listed: &mut [u8; 16],
-) {
-    let Outcome::Made(d, t, p) = made else {
-        return;
-    };
-    let a = least(d, last.len());
-    let b = least(d, level.len());
-    let c = least(t, terms.len());
-    let e = least(t, starts.len());
-    let f = least(p, postings.len());
-    listing(
-        &last[..a],
-        &level[..b],
-        &terms[..c],
-        &starts[..e],
-        &postings[..f],
-        query,
-        listed,
-    );
-}
-
-// Reads both texts, and writes 1 at each device that matches.
-pub fn listing_of_texts(plant: &[u8], query: &[u8], listed: &mut [u8; 16]) {
-    let mut last = [0u16; 16];
-    let mut root = [0u16; 16];
-    let mut level = [0u8; 16];
-    let mut terms = [0u16; 16];
-    let mut starts = [0u32; 16];
-    let mut postings = [0u32; 32];
+// Reads both texts, and lists the devices that match.
+pub fn listing_of_texts(
+    alloc: Global,
+    plant: &[u8],
+    query: &[u8],
+) -> Result<Vec<usize>, AllocError> {
+    let mut last = [0; 16];
+    let mut root = [0; 16];
+    let mut level = [0; 16];
+    let mut terms = [0; 16];
+    let mut starts = [0; 16];
+    let mut postings = [0; 32];
     let made = plant_text::read(
         plant,
         &mut last,
@@ -56,51 +27,47 @@ pub fn listing_of_texts(plant: &[u8], query: &[u8], listed: &mut [u8; 16]) {
         &mut starts,
         &mut postings,
     );
-    let asked = query_text::read(query);
-    let q = asked.query;
-    listing_of_parts(&last, &level, &terms, &starts, &postings, made, q, listed);
+    let (Ok(counts), Ok(query)) = (made, query_text::read(query)) else {
+        return Ok(Vec::new(alloc));
+    };
+    let plant = DeviceTables {
+        last: front(&last, counts.devices),
+        root: front(&root, counts.devices),
+        level: front(&level, counts.devices),
+    };
+    let first = IndexTables {
+        terms: front(&terms, counts.terms),
+        starts: front(&starts, counts.terms),
+        postings: front(&postings, counts.postings),
+    };
+    let second = IndexTables {
+        terms: &[],
+        starts: &[],
+        postings: &[],
+    };
+    listing(alloc, plant, TwoIndexes { first, second }, query)
 }
 
-// Prints the devices that are marked.
-pub fn print(listed: &[u8; 16]) {
-    write_all(STDOUT_FILENO, b"slow:");
-    let mut d: usize = 0;
-    while d < 16 {
-        if listed[d] == 1 {
-            write_all(STDOUT_FILENO, b" ");
-            io::print_decimal(STDOUT_FILENO, d as u64);
-        }
-        d += 1;
+// The first n entries of a table, or all of it.
+fn front<T>(table: &[T], n: usize) -> &[T] {
+    table.get(..n).unwrap_or(table)
+}
+
+// Prints the devices of a listing.
+pub fn print<R: Print>(rt: &R, listed: &[usize]) -> io::Result<()> {
+    print!(rt; "slow:")?;
+    for d in listed {
+        print!(rt; " {d}")?;
     }
-    write_all(STDOUT_FILENO, b"\n\n");
+    print!(rt; "\n\n")
 }
 
-// Whether the line at `at` is the device line of d, of one digit.
-fn is_line(out: &[u8], at: usize, d: usize) -> bool {
-    if 16000 < at {
-        return false;
+// Whether an answer begins with the device lines of a listing, and the place comes next.
+pub fn agrees(alloc: Global, answer: &[u8], listed: &[usize]) -> Result<bool, AllocError> {
+    let mut text = String::from_str(alloc, "(answer\n")?;
+    for d in listed {
+        writeln!(text, "(device {d})")?;
     }
-    at8(out, at + 1) == wide8(b'd')
-        && at8(out, at + 8) == plus(wide8(b'0'), number(d))
-        && at8(out, at + 10) == wide8(b'\n')
-}
-
-fn next_line(at: usize) -> usize {
-    if at < 16000 { at + 11 } else { at }
-}
-
-// Whether the device lines of an answer are those of the devices that are marked, and the place comes next.
-pub fn agrees(out: &[u8], listed: &[u8; 16]) -> bool {
-    let mut at: usize = 8;
-    let mut d: usize = 0;
-    while d < 10 {
-        if listed[d] == 1 {
-            if !is_line(out, at, d) {
-                return false;
-            }
-            at = next_line(at);
-        }
-        d += 1;
-    }
-    at8(out, next(at)) == wide8(b'p')
+    text.push_str("(place ")?;
+    Ok(answer.starts_with(text.as_bytes()))
 }

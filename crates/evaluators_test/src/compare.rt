@@ -1,218 +1,89 @@
 // The search beside the evaluators, for one plant, two indexes and a query.
-use crate::cells::{at16, front16, front32};
-use crate::indexes::{Index, joined};
-use crate::numbers::{least, next};
-use crate::plain_steps::walk;
+use crate::plain_steps::walk_to_end;
 use crate::refusals::refusal;
 use crate::slow::listing;
-use crate::spoil::Lengths;
+use plant::DeviceTables;
 use query::{Levels, Query};
 use search::{Answer, search};
+use std::alloc::{AllocError, Global};
+use two_indexes::TwoIndexes;
 
-// What stands among the refusals for a difference, and for a run that the choice of levels changes.
-pub const DIFFERS: u32 = 60;
+// What the answer list holds everywhere at first.
+const UNTOUCHED: u16 = 9999;
 
-pub const MOVED_BY_LEVELS: u32 = 61;
-
-// Whether the answer list, which held 9999 everywhere, keeps its entries from `from` on.
-fn is_kept(answer: &[u16], from: usize) -> bool {
-    let mut i = from;
-    while i < answer.len() {
-        if at16(answer, i) != 9999 {
-            return false;
-        }
-        i += 1;
-    }
-    true
+// A query over a plant and two indexes, with room for the answer.
+#[derive(Clone, Copy)]
+pub struct Case<'a> {
+    pub plant: DeviceTables<'a>,
+    pub indexes: TwoIndexes<'a>,
+    pub query: Query,
+    pub room: usize,
 }
 
-// Whether the answer's first entries are the devices below the position that `listed` marks, lowest first, and no more.
-fn is_listing(answer: &[u16], count: u32, position: u32, listed: &[u8; 16]) -> bool {
-    let mut j: usize = 0;
-    let mut d: u32 = 0;
-    while d < 16 {
-        if d < position && listed[d as usize] == 1 {
-            if at16(answer, j) != d {
-                return false;
-            }
-            j = next(j);
-        }
-        d += 1;
-    }
-    j == count as usize
+// What comes of a case: an answer, one that the choice of levels ends otherwise, a refusal, or a difference between search and evaluators.
+#[derive(Clone, Copy, PartialEq, Eq)]
+pub enum Verdict {
+    Answered,
+    MovedByLevels,
+    Refused(u32),
+    Differs,
 }
 
-// Whether a refusal has zeros beside it.
-fn is_bare(a: Answer) -> bool {
-    a.count == 0 && a.position == 0 && a.passed == 0 && a.moves == 0
+// Where an answer ends: the position, the postings passed over and the moves.
+fn end(a: Answer) -> (u32, u32, u32) {
+    (a.position, a.passed, a.moves)
+}
+
+// Whether an answer's devices are those of a listing up to its position.
+fn is_listing(answer: &[u16], position: usize, listed: &[usize]) -> bool {
+    let answered = answer.iter().map(|&d| usize::from(d));
+    answered.eq(listed.iter().copied().filter(|&d| d < position))
 }
 
 // Whether an accepted answer is the slow listing up to its position, and the plain steps' listing, position, postings passed over and moves.
-fn is_right(
-    last: &[u16],
-    root: &[u16],
-    level: &[u8],
-    terms: &[u16],
-    starts: &[u32],
-    postings: &[u32],
-    query: Query,
-    answer: &[u16],
-    a: Answer,
-) -> bool {
-    let mut slow = [0u8; 16];
-    let mut plain = [0u8; 16];
-    listing(last, level, terms, starts, postings, query, &mut slow);
-    let ended = walk(
-        last, root, level, terms, starts, postings, query, &mut plain,
-    );
-    if a.position != ended.position || a.passed != ended.passed || a.moves != ended.moves {
-        return false;
-    }
-    is_listing(answer, a.count, a.position, &slow)
-        && is_listing(answer, a.count, a.position, &plain)
-}
-
-// The same for the lists of two indexes.
-fn is_right_over(
-    last: &[u16],
-    root: &[u16],
-    level: &[u8],
-    first: Index,
-    second: Index,
-    query: Query,
-    answer: &[u16],
-    a: Answer,
-) -> bool {
-    let index = joined(first, second);
-    let all_terms = index.terms;
-    let all_starts = index.starts;
-    let all_postings = index.postings;
-    let terms = front16(&all_terms, index.term_count);
-    let starts = front32(&all_starts, index.start_count);
-    let postings = front32(&all_postings, index.posting_count);
-    is_right(last, root, level, terms, starts, postings, query, answer, a)
-}
-
-// What the search answers over the entries of two indexes that are lent.
-fn found(
-    last: &[u16],
-    root: &[u16],
-    level: &[u8],
-    first: Index,
-    second: Index,
-    query: Query,
-    answer: &mut [u16],
-) -> Answer {
-    let terms = first.terms;
-    let starts = first.starts;
-    let postings = first.postings;
-    let second_terms = second.terms;
-    let second_starts = second.starts;
-    let second_postings = second.postings;
-    search(
-        last,
-        root,
-        level,
-        front16(&terms, first.term_count),
-        front32(&starts, first.start_count),
-        front32(&postings, first.posting_count),
-        front16(&second_terms, second.term_count),
-        front32(&second_starts, second.start_count),
-        front32(&second_postings, second.posting_count),
-        query,
-        answer,
+fn is_right(alloc: Global, case: Case<'_>, answer: &[u16], a: Answer) -> Result<bool, AllocError> {
+    let slow = listing(alloc, case.plant, case.indexes, case.query)?;
+    let plain = walk_to_end(alloc, case.plant, case.indexes, case.query)?;
+    let position = a.position as usize;
+    Ok(
+        position == plain.position
+            && a.passed as usize == plain.passed
+            && a.moves as usize == plain.moves
+            && is_listing(answer, position, &slow)
+            && is_listing(answer, position, &plain.listed),
     )
 }
 
-// Whether two answers differ in the position, the postings passed over or the moves.
-fn ends_otherwise(a: Answer, b: Answer) -> bool {
-    a.position != b.position || a.passed != b.passed || a.moves != b.moves
+// Whether a query that is answered by `a` ends otherwise where it wants these levels. Its listing is written over.
+fn is_moved_by(case: Case<'_>, levels: Levels, answer: &mut [u16], a: Answer) -> bool {
+    let query = case.query.with_levels(levels);
+    let again = search(case.plant, case.indexes, query, answer);
+    again.map_or(true, |b| end(a) != end(b))
 }
 
-// Whether a query that is answered by a ends otherwise where it wants any level, or true levels only. Its listing is written over.
-fn is_moved_by_levels(
-    last: &[u16],
-    root: &[u16],
-    level: &[u8],
-    first: Index,
-    second: Index,
-    query: Query,
-    answer: &mut [u16],
-    a: Answer,
-) -> bool {
-    let any_level = query.with_levels(Levels::Any);
-    let true_levels = query.with_levels(Levels::TrueOnly);
-    let b = found(last, root, level, first, second, any_level, answer);
-    let c = found(last, root, level, first, second, true_levels, answer);
-    ends_otherwise(a, b) || ends_otherwise(a, c)
-}
-
-// The refusal that the search gives, DIFFERS where anything differs, or MOVED_BY_LEVELS.
-fn judge(
-    last: &[u16],
-    root: &[u16],
-    level: &[u8],
-    first: Index,
-    second: Index,
-    query: Query,
-    answer: &mut [u16],
-) -> u32 {
-    let expected = refusal(last, root, level, first, second, query, answer.len());
-    let a = found(last, root, level, first, second, query, answer);
-    if a.refusal != expected || !is_kept(answer, a.count as usize) {
-        return DIFFERS;
+// Judges a case. A refusal differs by its number, or where it writes to the answer list.
+pub fn judge(alloc: Global, case: Case<'_>) -> Result<Verdict, AllocError> {
+    let mut answer = vec![in alloc; UNTOUCHED; case.room]?;
+    let expected = refusal(case.plant, case.indexes, case.query, case.room);
+    let found = search(case.plant, case.indexes, case.query, &mut answer);
+    let count = found.map_or(0, |a| a.count as usize);
+    let Some((written, rest)) = answer.split_at_checked(count) else {
+        return Ok(Verdict::Differs);
+    };
+    if rest.iter().any(|&d| d != UNTOUCHED) {
+        return Ok(Verdict::Differs);
     }
-    if expected != 0 {
-        if is_bare(a) {
-            return expected;
+    match (found, expected) {
+        (Err(found), Some(row)) if found.number() == row => Ok(Verdict::Refused(row)),
+        (Ok(a), None) if is_right(alloc, case, written, a)? => {
+            let is_moved = is_moved_by(case, Levels::Any, &mut answer, a)
+                || is_moved_by(case, Levels::TrueOnly, &mut answer, a);
+            Ok(if is_moved {
+                Verdict::MovedByLevels
+            } else {
+                Verdict::Answered
+            })
         }
-        return DIFFERS;
+        _ => Ok(Verdict::Differs),
     }
-    if !is_right_over(last, root, level, first, second, query, answer, a) {
-        return DIFFERS;
-    }
-    if is_moved_by_levels(last, root, level, first, second, query, answer, a) {
-        return MOVED_BY_LEVELS;
-    }
-    0
-}
-
-// Judges the parts of the device tables that are lent.
-fn judge_parts(
-    last: &[u16],
-    root: &[u16],
-    level: &[u8],
-    first: Index,
-    second: Index,
-    sizes: Lengths,
-    query: Query,
-) -> u32 {
-    let mut list = [9999u16; 16];
-    let answer: &mut [u16] = &mut list;
-    let a = least(sizes.last, last.len());
-    let b = least(sizes.root, root.len());
-    let c = least(sizes.level, level.len());
-    let d = least(sizes.room, answer.len());
-    judge(
-        &last[..a],
-        &root[..b],
-        &level[..c],
-        first,
-        second,
-        query,
-        &mut answer[..d],
-    )
-}
-
-// The refusal that the search gives for the first entries of these tables, DIFFERS where anything differs, or MOVED_BY_LEVELS.
-pub fn compare(
-    last: &[u16; 16],
-    root: &[u16; 16],
-    level: &[u8; 16],
-    first: Index,
-    second: Index,
-    sizes: Lengths,
-    query: Query,
-) -> u32 {
-    judge_parts(last, root, level, first, second, sizes, query)
 }

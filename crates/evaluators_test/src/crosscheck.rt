@@ -1,131 +1,95 @@
 // The search beside the evaluators over small plants, pairs of indexes and queries from a fixed seed: sound ones, and ones damaged in each way
 // that the rows of the refusals name, or in two. Prints how often each answer arose, in how many cases anything differed, and in how many of
 // those answered another choice of levels gave another position, passed over other postings or made other moves.
-use crate::compare::{DIFFERS, MOVED_BY_LEVELS, compare};
-use crate::indexes::Index;
-use crate::numbers::{minus, plus, wide};
-use crate::random::draw;
+use crate::compare::{Case, Verdict, judge};
+use crate::make::{MadeIndex, MadePlant};
+use crate::random::Random;
 use crate::spoil::Damage;
 use crate::{make, spoil};
-use io::{print_decimal, write_all};
+use std::alloc::{AllocError, Global};
+use std::io;
+use two_indexes::TwoIndexes;
 
-const STDOUT_FILENO: i32 = 1;
+const CASES: usize = 8000;
 
-// The rows in the order in which they are tested, from 1 on: 1 to 9, 55 to 59, 15, 10 to 14. 0 for any other number.
-fn row_at(i: u32) -> u32 {
-    if i < 10 {
-        return i;
-    }
-    if i < 15 {
-        return plus(i, 45);
-    }
-    if i == 15 {
-        return 15;
-    }
-    if i < 21 {
-        return minus(i, 6);
-    }
-    0
-}
+// The rows of the refusals in the order in which they are tested.
+const ROWS: [u16; 20] = [
+    1, 2, 3, 4, 5, 6, 7, 8, 9, 55, 56, 57, 58, 59, 15, 10, 11, 12, 13, 14,
+];
 
-// The counts of cases: how often each refusal arose, 0 for an answer, and at DIFFERS and MOVED_BY_LEVELS how often those did.
-fn count(tally: &mut [u32; 64], k: u32) {
-    if k < 64 {
-        let i = k as usize;
-        tally[i] = plus(tally[i], 1);
-    }
+// Row i, counted from 1.
+fn row_at(i: usize) -> Option<u16> {
+    ROWS.get(i.checked_sub(1)?).copied()
 }
 
 // An index over n devices, of k terms above `base`, damaged in the way that `kind` names.
-fn one_index(seed: &mut u64, kind: u32, k: u32, base: u32, n: u32, last: &[u16; 16]) -> Index {
-    let mut terms = [0u16; 16];
-    let mut starts = [0u32; 64];
-    let mut postings = [0u32; 64];
-    let way = draw(seed, 3);
-    make::terms(seed, base, &mut terms);
-    let p = make::postings(seed, n, k, kind == 9, last, &mut starts, &mut postings);
-    spoil::index(
-        seed,
-        kind,
-        base,
-        n,
-        k,
-        p,
-        &mut terms,
-        &mut starts,
-        &mut postings,
-    );
-    Index {
-        terms: terms,
-        starts: starts,
-        postings: postings,
-        term_count: spoil::term_count(kind, way, k),
-        start_count: spoil::start_count(kind, way, k),
-        posting_count: wide(p),
-    }
+fn one_index(
+    alloc: Global,
+    random: &mut Random,
+    kind: Option<u16>,
+    k: u16,
+    base: u16,
+    n: u16,
+    plant: &MadePlant,
+) -> Result<MadeIndex, AllocError> {
+    let way = random.draw(3);
+    let is_redundant = kind == Some(9);
+    let mut made = make::index(alloc, random, plant.lent(), n, k, base, is_redundant)?;
+    spoil::index(random, kind, base, n, k, &mut made);
+    spoil::outline(kind, way, &mut made)?;
+    Ok(made)
 }
 
 // One case: a plant, two indexes, the second empty in half of the cases, and a query, damaged or not.
-fn one_case(seed: &mut u64, damage: Damage, tally: &mut [u32; 64]) {
-    let mut last = [0u16; 16];
-    let mut root = [0u16; 16];
-    let mut level = [0u8; 16];
-    let n = draw(seed, 8);
-    let side = draw(seed, 2);
-    let k = draw(seed, 4);
-    let more = minus(draw(seed, 6), 2);
-    make::devices(seed, n, &mut last, &mut root, &mut level);
-    let low = make::base(seed, k, false, damage.filing == 15 && side == 0);
-    let high = make::base(seed, more, true, damage.filing == 15 && side == 1);
-    let first = one_index(seed, damage.first, k, low, n, &last);
-    let second = one_index(seed, damage.second, more, high, n, &last);
-    let sound = make::query(seed, n, low, high);
-    let query = spoil::query(seed, damage.query, n, sound);
-    let sizes = spoil::sizes(seed, damage.plant, damage.query, n);
-    spoil::plant(seed, damage.plant, n, &mut last, &mut root);
-    let refusal = compare(&last, &root, &level, first, second, sizes, query);
-    count(tally, refusal);
-}
-
-fn print_line(word: &[u8], n: u32, m: u32) {
-    write_all(STDOUT_FILENO, word);
-    print_decimal(STDOUT_FILENO, n as u64);
-    write_all(STDOUT_FILENO, b" ");
-    print_decimal(STDOUT_FILENO, m as u64);
-    write_all(STDOUT_FILENO, b"\n");
+fn one_case(alloc: Global, random: &mut Random, damage: Damage) -> Result<Verdict, AllocError> {
+    let n = random.draw(8);
+    let is_second = random.draw(2) == 1;
+    let k = random.draw(4);
+    let more = random.draw(6).saturating_sub(2);
+    let mut plant = make::devices(alloc, random, n)?;
+    let is_misfiled = damage.filing.is_some();
+    let low = make::base(random, k, false, is_misfiled && !is_second);
+    let high = make::base(random, more, true, is_misfiled && is_second);
+    let first = one_index(alloc, random, damage.first, k, low, n, &plant)?;
+    let second = one_index(alloc, random, damage.second, more, high, n, &plant)?;
+    let sound = make::query(random, n, low, high);
+    let query = spoil::query(random, damage.query, n, sound);
+    spoil::lengths(random, damage.plant, &mut plant)?;
+    let room = spoil::room(random, damage.query, n);
+    spoil::plant(random, damage.plant, n, &mut plant);
+    let case = Case {
+        plant: plant.lent(),
+        indexes: TwoIndexes {
+            first: first.lent(),
+            second: second.lent(),
+        },
+        query,
+        room: usize::from(room),
+    };
+    judge(alloc, case)
 }
 
 // Of 24 cases each row damages one, and four are left sound. A third of all are damaged by another row too.
-fn run(seed: &mut u64, cases: u32, tally: &mut [u32; 64]) {
-    let mut i: u32 = 0;
-    while i < cases {
-        let damage = spoil::by_rows(row_at(i % 24), row_at(draw(seed, 60)));
-        one_case(seed, damage, tally);
-        i += 1;
+fn verdicts(alloc: Global) -> Result<Vec<Verdict>, AllocError> {
+    let mut random = Random { seed: 20261115 };
+    let mut verdicts = Vec::new(alloc);
+    for i in 0..CASES {
+        let other = random.draw(60);
+        let damage = spoil::by_rows(row_at(i % 24), row_at(usize::from(other)));
+        verdicts.push(one_case(alloc, &mut random, damage)?)?;
     }
+    Ok(verdicts)
 }
 
-fn print_count(tally: &[u32; 64], row: u32) {
-    if row < 64 {
-        print_line(b"refusal ", row, tally[row as usize]);
+pub fn print_cases<R: Print + AllocGlobal>(rt: &R) -> io::Result<()> {
+    let verdicts = verdicts(rt.alloc())?;
+    let count = |verdict| verdicts.iter().filter(|&&v| v == verdict).count();
+    let moved = count(Verdict::MovedByLevels);
+    let answered = count(Verdict::Answered);
+    println!(rt; "cases, answered: {CASES} {answered}")?;
+    for row in ROWS {
+        println!(rt; "refusal {row} {}", count(Verdict::Refused(u32::from(row))))?;
     }
-}
-
-fn print_tally(tally: &[u32; 64]) {
-    let mut i: u32 = 1;
-    while i < 21 {
-        print_count(tally, row_at(i));
-        i += 1;
-    }
-}
-
-pub fn print_cases() {
-    let mut seed: u64 = 20261115;
-    let mut tally = [0u32; 64];
-    run(&mut seed, 8000, &mut tally);
-    print_line(b"cases, answered: ", 8000, tally[0]);
-    print_tally(&tally);
-    print_line(b"differences, of: ", tally[DIFFERS as usize], 8000);
-    let moved = tally[MOVED_BY_LEVELS as usize];
-    print_line(b"moved by levels, of: ", moved, tally[0]);
+    println!(rt; "differences, of: {} {CASES}", count(Verdict::Differs))?;
+    println!(rt; "moved by levels, of: {moved} {answered}")
 }

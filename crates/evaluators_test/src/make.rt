@@ -1,36 +1,84 @@
 // Small plants, indexes and queries, made from a seed.
-use crate::cells::{at16, entry, put8, put16, put32, reach};
-use crate::numbers::{minus, plus, small};
-use crate::random::draw;
+use crate::random::Random;
+use crate::tables::{last_of, reach};
+use index::IndexTables;
+use plant::DeviceTables;
 use query::{Levels, Query, Terms};
+use std::alloc::{AllocError, Global};
 
-// Where the innermost branch that holds the device at index d ends, among those before it: n where there is none.
-fn limit(last: &[u16; 16], d: u32, n: u32) -> u32 {
-    let mut end = n;
-    let mut e: u32 = 0;
-    while e < d {
-        let l = at16(last, small(e));
-        if d < l && l < end {
-            end = l;
+// The tables of a plant and of an index, as they are made, and lent from here.
+#[derive(Drop)]
+pub struct MadePlant {
+    pub last: Vec<u16>,
+    pub root: Vec<u16>,
+    pub level: Vec<u8>,
+}
+
+impl MadePlant {
+    pub fn lent(&self) -> DeviceTables<'_> {
+        DeviceTables {
+            last: &self.last,
+            root: &self.root,
+            level: &self.level,
         }
-        e += 1;
     }
-    end
 }
 
-// The root of the device at index d, from the one before it.
-fn root_at(last: &[u16; 16], root: &[u16; 16], d: u32) -> u32 {
-    if d == 0 {
-        return 1;
-    }
-    let r = entry(root, d);
-    if d < entry(last, r) {
-        return r;
-    }
-    plus(d, 1)
+#[derive(Drop)]
+pub struct MadeIndex {
+    pub terms: Vec<u16>,
+    pub starts: Vec<u32>,
+    pub postings: Vec<u32>,
 }
 
-fn level_code(k: u32) -> u32 {
+impl MadeIndex {
+    pub fn lent(&self) -> IndexTables<'_> {
+        IndexTables {
+            terms: &self.terms,
+            starts: &self.starts,
+            postings: &self.postings,
+        }
+    }
+
+    // The number of postings, as a number to draw below.
+    pub fn posting_count(&self) -> u16 {
+        u16::try_from(self.postings.len()).unwrap_or(u16::MAX)
+    }
+}
+
+// The root of the device at index d, from that of the one before it.
+fn root_at(plant: DeviceTables<'_>, d: u16) -> u16 {
+    match plant.root.last() {
+        Some(&root) if usize::from(d) < last_of(plant, usize::from(root)) => root,
+        _ => d.saturating_add(1),
+    }
+}
+
+// Device tables of n devices. A device's branch ends within the innermost one that holds it.
+pub fn devices(alloc: Global, random: &mut Random, n: u16) -> Result<MadePlant, AllocError> {
+    let mut made = MadePlant {
+        last: Vec::new(alloc),
+        root: Vec::new(alloc),
+        level: Vec::new(alloc),
+    };
+    for d in 0..n {
+        let end = made
+            .last
+            .iter()
+            .copied()
+            .filter(|&last| d < last)
+            .min()
+            .unwrap_or(n);
+        let length = random.draw(end.saturating_sub(d));
+        made.last.push(d.saturating_add(1).saturating_add(length))?;
+        let root = root_at(made.lent(), d);
+        made.root.push(root)?;
+        made.level.push(level_code(random.draw(6)))?;
+    }
+    Ok(made)
+}
+
+fn level_code(k: u16) -> u8 {
     match k {
         0 => 0,
         1 => 1,
@@ -41,101 +89,80 @@ fn level_code(k: u32) -> u32 {
     }
 }
 
-// Device tables of n devices.
-pub fn devices(
-    seed: &mut u64,
-    n: u32,
-    last: &mut [u16; 16],
-    root: &mut [u16; 16],
-    level: &mut [u8; 16],
-) {
-    let mut d: u32 = 0;
-    while d < n {
-        let end = limit(last, d, n);
-        let length = draw(seed, minus(end, d));
-        put16(last, d, plus(plus(d, 1), length));
-        let r = root_at(last, root, d);
-        put16(root, d, r);
-        let code = level_code(draw(seed, 6));
-        put8(level, d, code);
-        d += 1;
-    }
-}
-
 // What the k terms of an index lie above, by at most 2k: an end of the terms of the first index, or of the second, or 32,766 where terms of both
 // are to be mixed. The terms of a query lie above it by at most 6.
-pub fn base(seed: &mut u64, k: u32, is_second: bool, is_mixed: bool) -> u32 {
-    let is_low = draw(seed, 2) == 0;
-    if is_mixed {
-        return 32766;
+pub fn base(random: &mut Random, k: u16, is_second: bool, is_mixed: bool) -> u16 {
+    let is_low = random.draw(2) == 0;
+    match (is_mixed, is_second, is_low) {
+        (true, _, _) => 32766,
+        (false, true, true) => 32767,
+        (false, true, false) => 65529,
+        (false, false, true) => 0,
+        (false, false, false) => 32767u16.saturating_sub(k.saturating_mul(2)),
     }
-    if is_second {
-        return if is_low { 32767 } else { 65529 };
-    }
-    if is_low { 0 } else { minus(32767, plus(k, k)) }
 }
 
-// Three terms that rise, above `base`.
-pub fn terms(seed: &mut u64, base: u32, terms: &mut [u16; 16]) {
-    let a = plus(plus(base, 1), draw(seed, 2));
-    let b = plus(plus(a, 1), draw(seed, 2));
-    let c = plus(plus(b, 1), draw(seed, 2));
-    put16(terms, 0, a);
-    put16(terms, 1, b);
-    put16(terms, 2, c);
+// The first k of three terms that rise, above `base`.
+fn terms(alloc: Global, random: &mut Random, base: u16, k: u16) -> Result<Vec<u16>, AllocError> {
+    let mut terms = Vec::new(alloc);
+    let mut term = base;
+    for i in 0..3 {
+        term = term.saturating_add(1).saturating_add(random.draw(2));
+        if i < k {
+            terms.push(term)?;
+        }
+    }
+    Ok(terms)
 }
 
-// The lists of k terms over n devices, one device after another, with redundant postings among them or not. Returns how many postings there are.
-pub fn postings(
-    seed: &mut u64,
-    n: u32,
-    k: u32,
+// An index of k terms above `base` over n devices, each list one device after another, with redundant postings among them or not.
+pub fn index(
+    alloc: Global,
+    random: &mut Random,
+    plant: DeviceTables<'_>,
+    n: u16,
+    k: u16,
+    base: u16,
     is_redundant: bool,
-    last: &[u16; 16],
-    starts: &mut [u32; 64],
-    postings: &mut [u32; 64],
-) -> u32 {
-    let mut p: u32 = 0;
-    let mut covered: u32 = 0;
-    let mut t: u32 = 0;
-    let mut d: u32 = 0;
-    let mut turns: u32 = 200;
-    while 0 < turns && t < k {
-        turns -= 1;
-        if d == 0 {
-            put32(starts, t, p);
-            covered = 0;
-        }
-        d = plus(d, 1);
-        let posting = posting_at(seed, d, n, covered);
-        if posting != 0 {
-            put32(postings, p, posting);
-            p = plus(p, 1);
-        }
-        if posting != 0 && !is_redundant {
-            covered = reach(last, posting);
-        }
-        if n <= d {
-            t = plus(t, 1);
-            d = 0;
-        }
+) -> Result<MadeIndex, AllocError> {
+    let mut made = MadeIndex {
+        terms: terms(alloc, random, base, k)?,
+        starts: Vec::new(alloc),
+        postings: Vec::new(alloc),
+    };
+    for _ in 0..k {
+        let start = u32::from(made.posting_count());
+        made.starts.push(start)?;
+        list(random, plant, n, is_redundant, &mut made.postings)?;
     }
-    p
+    Ok(made)
 }
 
-// A posting at device d, shared or private, or 0: half of the devices have none, and those that a shared posting covers.
-fn posting_at(seed: &mut u64, d: u32, n: u32, covered: u32) -> u32 {
-    let kind = draw(seed, 4);
-    if n < d || d <= covered || kind < 2 {
-        return 0;
+// Adds a list of postings. Those that a shared posting covers are left out unless they are to be redundant.
+fn list(
+    random: &mut Random,
+    plant: DeviceTables<'_>,
+    n: u16,
+    is_redundant: bool,
+    postings: &mut Vec<u32>,
+) -> Result<(), AllocError> {
+    let mut covered = 0;
+    for d in 1..=n.max(1) {
+        let kind = random.draw(4);
+        if d <= n && covered < usize::from(d) && 2 <= kind {
+            let posting = 2 * u32::from(d) + u32::from(kind - 2);
+            postings.push(posting)?;
+            if !is_redundant {
+                covered = reach(plant, posting);
+            }
+        }
     }
-    plus(plus(d, d), kind - 2)
+    Ok(())
 }
 
 // A range in half of the cases, any level and true levels only in a quarter each.
-fn levels(seed: &mut u64) -> Levels {
-    let k = draw(seed, 8);
-    match k {
+fn levels(random: &mut Random) -> Levels {
+    match random.draw(8) {
         0 => Levels::Range(1, 254),
         1 => Levels::Range(1, 90),
         2 => Levels::Range(90, 118),
@@ -145,48 +172,45 @@ fn levels(seed: &mut u64) -> Levels {
     }
 }
 
-fn budget(seed: &mut u64) -> u32 {
-    if draw(seed, 3) == 0 {
-        return Query::LARGEST_BUDGET;
+fn budget(random: &mut Random) -> u32 {
+    if random.draw(3) == 0 {
+        Query::LARGEST_BUDGET
+    } else {
+        u32::from(random.draw(6))
     }
-    draw(seed, 6)
 }
 
 // A term above one of two bases, which may be in an index or not.
-fn term(seed: &mut u64, low: u32, high: u32) -> u32 {
-    let t = plus(1, draw(seed, 6));
-    if draw(seed, 2) == 0 {
-        return plus(low, t);
-    }
-    plus(high, t)
+fn term(random: &mut Random, low: u16, high: u16) -> u32 {
+    let more = u32::from(random.draw(6)) + 1;
+    let base = if random.draw(2) == 0 { low } else { high };
+    u32::from(base) + more
 }
 
 // Three terms in eight places.
-fn places(seed: &mut u64, low: u32, high: u32) -> [u32; 8] {
-    let a = term(seed, low, high);
-    let b = term(seed, low, high);
-    let c = term(seed, low, high);
+fn places(random: &mut Random, low: u16, high: u16) -> [u32; 8] {
+    let a = term(random, low, high);
+    let b = term(random, low, high);
+    let c = term(random, low, high);
     [a, b, c, 0, 0, 0, 0, 0]
 }
 
 // A query over a plant of n devices, with terms above two bases.
-pub fn query(seed: &mut u64, n: u32, low: u32, high: u32) -> Query {
-    let first = places(seed, low, high);
-    let second = places(seed, low, high);
-    let wanted = levels(seed);
-    let required = Terms {
-        places: first,
-        count: small(draw(seed, 3)),
-    };
-    let forbidden = Terms {
-        places: second,
-        count: small(draw(seed, 3)),
-    };
+pub fn query(random: &mut Random, n: u16, low: u16, high: u16) -> Query {
+    let required = places(random, low, high);
+    let forbidden = places(random, low, high);
+    let levels = levels(random);
     Query {
-        required: required,
-        forbidden: forbidden,
-        levels: wanted,
-        start: plus(1, draw(seed, plus(n, 1))),
-        budget: budget(seed),
+        required: Terms {
+            places: required,
+            count: usize::from(random.draw(3)),
+        },
+        forbidden: Terms {
+            places: forbidden,
+            count: usize::from(random.draw(3)),
+        },
+        levels,
+        start: u32::from(random.draw(n.saturating_add(1))) + 1,
+        budget: budget(random),
     }
 }

@@ -1,235 +1,156 @@
 // Document 01's cursor steps, one at a time: each turn makes one move, passes one cursor, sets the position, or lists a device.
-use crate::cells::{
-    at8, at32, entry, is_used, list_end, list_number, list_start, reach, term, wants,
-};
-use crate::numbers::{minus, next, number, plus, wide};
+use crate::queries::{used, wants};
+use crate::tables::{carries, device, last_of, level_of, list_in, reach, root_of};
+use plant::DeviceTables;
 use query::Query;
+use std::alloc::{AllocError, Global};
+use two_indexes::TwoIndexes;
 
-// How a walk ended: the position, the postings that its moves passed over, and the moves.
+// More turns than any walk here takes.
+const TURNS: u32 = 100000;
+
+// A cursor is what is left of its list, from the posting that it stands on.
 #[derive(Clone, Copy)]
-pub struct Ended {
-    pub position: u32,
-    pub passed: u32,
-    pub moves: u32,
+struct Cursor<'a> {
+    left: &'a [u32],
+    is_required: bool,
 }
 
-// Where a walk is: the position, the slot whose cursor comes next, the postings passed over, the moves made, and whether the next would be
-// one too many.
-#[derive(Clone, Copy)]
-struct State {
-    position: u32,
-    slot: usize,
-    passed: u32,
-    moves: u32,
-    is_stopped: bool,
-}
-
-// A walk that goes on.
-fn going(position: u32, slot: usize, passed: u32, moves: u32) -> State {
-    State {
-        position: position,
-        slot: slot,
-        passed: passed,
-        moves: moves,
-        is_stopped: false,
-    }
-}
-
-// The device that a cursor stands on: N + 1 past its list.
-fn stands(last: &[u16], postings: &[u32], at: usize, end: usize) -> u32 {
-    if at < end {
-        at32(postings, at) / 2
-    } else {
-        plus(number(last.len()), 1)
-    }
-}
-
-// Whether the cursor's posting carries to p.
-fn carries(last: &[u16], postings: &[u32], at: usize, end: usize, p: u32) -> bool {
-    if end <= at {
-        return false;
-    }
-    let posting = at32(postings, at);
-    posting / 2 <= p && p <= reach(last, posting)
-}
-
-// The first posting at or beyond a device.
-fn first_from(postings: &[u32], at: usize, end: usize, device: u32) -> usize {
-    let mut i = at;
-    while i < end {
-        if device <= at32(postings, i) / 2 {
-            return i;
+impl Cursor<'_> {
+    // Whether it stands before position p, on a posting that doesn't carry to p.
+    fn is_behind(self, plant: DeviceTables<'_>, p: usize) -> bool {
+        match self.left {
+            [first, ..] => device(*first) <= p && !carries(plant, *first, p),
+            [] => false,
         }
-        i += 1;
     }
-    i
-}
 
-// Where a move from `at` towards p goes.
-fn moved(last: &[u16], root: &[u16], postings: &[u32], at: usize, end: usize, p: u32) -> usize {
-    if end <= at {
-        return at;
-    }
-    let c = at32(postings, at) / 2;
-    if c < entry(root, p) {
-        return first_from(postings, at, end, entry(root, p));
-    }
-    if entry(last, c) < p {
-        return first_from(postings, at, end, plus(entry(last, c), 1));
-    }
-    at + 1
-}
-
-// The postings that a move from one index to another passes over without landing.
-fn between(from: usize, to: usize) -> u32 {
-    minus(number(to), plus(number(from), 1))
-}
-
-// The position after p, at which a forbidden term is carried to it.
-fn beyond(last: &[u16], postings: &[u32], at: usize, p: u32) -> u32 {
-    let posting = at32(postings, at);
-    if posting % 2 == 1 {
-        return plus(entry(last, posting / 2), 1);
-    }
-    plus(p, 1)
-}
-
-// The cursor of slot k is brought to the position: the next slot's turn, or a later position.
-fn pass(last: &[u16], postings: &[u32], at: usize, end: usize, s: State) -> State {
-    let p = s.position;
-    let k = s.slot;
-    let c = stands(last, postings, at, end);
-    if k < 8 && p < c {
-        return going(c, 0, s.passed, s.moves);
-    }
-    if 8 <= k && carries(last, postings, at, end, p) {
-        return going(beyond(last, postings, at, p), 0, s.passed, s.moves);
-    }
-    going(p, next(k), s.passed, s.moves)
-}
-
-// The turn of the cursor of slot k.
-fn cursor_turn(
-    last: &[u16],
-    root: &[u16],
-    postings: &[u32],
-    budget: u32,
-    s: State,
-    cursors: &mut [usize; 16],
-    end: usize,
-) -> State {
-    let p = s.position;
-    let k = s.slot;
-    let moves = s.moves;
-    if 16 <= k {
-        return s;
-    }
-    let at = cursors[k];
-    if p < stands(last, postings, at, end) || carries(last, postings, at, end, p) {
-        return pass(last, postings, at, end, s);
-    }
-    if budget <= moves {
-        return State {
-            position: p,
-            slot: k,
-            passed: s.passed,
-            moves: moves,
-            is_stopped: true,
+    // How many postings on a move towards p goes: to the tree of p, beyond the branch of its device, or to the next one.
+    fn move_towards(self, plant: DeviceTables<'_>, p: usize) -> usize {
+        let c = self.left.first().map_or(0, |&posting| device(posting));
+        let root = root_of(plant, p);
+        let last = last_of(plant, c);
+        let sought = if c < root {
+            root
+        } else if last < p {
+            last.saturating_add(1)
+        } else {
+            return 1;
         };
+        let before = |posting: &&u32| device(**posting) < sought;
+        self.left.iter().take_while(before).count()
     }
-    let to = moved(last, root, postings, at, end, p);
-    cursors[k] = to;
-    going(p, k, plus(s.passed, between(at, to)), moves + 1)
-}
 
-// One turn: of a cursor, or, when the round has ended, of the position.
-fn turn(
-    last: &[u16],
-    root: &[u16],
-    level: &[u8],
-    postings: &[u32],
-    query: Query,
-    s: State,
-    cursors: &mut [usize; 16],
-    ends: &[usize; 16],
-    listed: &mut [u8; 16],
-) -> State {
-    let p = s.position;
-    let k = s.slot;
-    if k < 16 {
-        if is_used(query, k) {
-            return cursor_turn(last, root, postings, query.budget, s, cursors, ends[k]);
-        }
-        return going(p, next(k), s.passed, s.moves);
-    }
-    list(level, query, p, listed);
-    going(plus(p, 1), 0, s.passed, s.moves)
-}
-
-// Lists p when the query wants its code.
-fn list(level: &[u8], query: Query, p: u32, listed: &mut [u8; 16]) {
-    let levels = query.levels;
-    if p == 0 {
-        return;
-    }
-    if p < 16 {
-        if wants(levels, at8(level, wide(p - 1))) {
-            listed[wide(p)] = 1;
+    // The position that it asks for where it isn't behind p: the device of a required posting, or the one after all that a
+    // forbidden posting carries to.
+    fn asks(self, plant: DeviceTables<'_>, p: usize) -> usize {
+        match self.left {
+            [] if self.is_required => plant.last.len() + 1,
+            [first, ..] if self.is_required => device(*first).max(p),
+            [first, ..] if carries(plant, *first, p) => reach(plant, *first).saturating_add(1),
+            _ => p,
         }
     }
 }
 
-// Places the cursors on the first postings of their lists.
-fn place(
-    terms: &[u16],
-    starts: &[u32],
-    postings: &[u32],
+// A walk: where it is, the postings that its moves passed over, the moves, the devices that it has listed; and its cursors, with which is next.
+#[derive(Drop)]
+pub struct Walk<'a> {
+    pub position: usize,
+    pub passed: usize,
+    pub moves: usize,
+    pub listed: Vec<usize>,
+    plant: DeviceTables<'a>,
     query: Query,
-    cursors: &mut [usize; 16],
-    ends: &mut [usize; 16],
-) {
-    let mut k = 0;
-    while k < 16 {
-        let list = list_number(terms, term(query, k));
-        cursors[k] = list_start(starts, list, postings);
-        ends[k] = list_end(starts, list, postings);
-        k += 1;
+    cursors: Vec<Cursor<'a>>,
+    next: usize,
+}
+
+// The cursors of a query: of its required terms, and of its forbidden ones.
+fn cursors<'a>(
+    alloc: Global,
+    indexes: TwoIndexes<'a>,
+    query: Query,
+) -> Result<Vec<Cursor<'a>>, AllocError> {
+    let cursor = |term: u32, is_required: bool| Cursor {
+        left: list_in(indexes, term),
+        is_required,
+    };
+    let required = used(&query.required).iter().map(|&term| cursor(term, true));
+    let forbidden = used(&query.forbidden)
+        .iter()
+        .map(|&term| cursor(term, false));
+    required.chain(forbidden).collect(alloc)
+}
+
+impl Walk<'_> {
+    fn go_to(&mut self, position: usize) {
+        self.position = position;
+        self.next = 0;
+    }
+
+    // Lists the device at the position where the query wants its level code.
+    fn list(&mut self) -> Result<(), AllocError> {
+        let p = self.position;
+        if wants(self.query.levels, level_of(self.plant, p)) {
+            self.listed.push(p)?;
+        }
+        self.go_to(p.saturating_add(1));
+        Ok(())
+    }
+
+    // Takes a turn. False where the walk has ended: past the last device, or where the next move would be one too many.
+    fn turn(&mut self) -> Result<bool, AllocError> {
+        let plant = self.plant;
+        let p = self.position;
+        if plant.last.len() < p {
+            return Ok(false);
+        }
+        let Some(cursor) = self.cursors.get_mut(self.next) else {
+            self.list()?;
+            return Ok(true);
+        };
+        if cursor.is_behind(plant, p) {
+            if self.query.budget as usize <= self.moves {
+                return Ok(false);
+            }
+            let n = cursor.move_towards(plant, p);
+            cursor.left = cursor.left.get(n..).unwrap_or(&[]);
+            self.passed = self.passed.saturating_add(n.saturating_sub(1));
+            self.moves = self.moves.saturating_add(1);
+            return Ok(true);
+        }
+        let asked = cursor.asks(plant, p);
+        if asked == p {
+            self.next = self.next.saturating_add(1);
+        } else {
+            self.go_to(asked);
+        }
+        Ok(true)
     }
 }
 
-// Walks to the end of a query's run, and writes 1 at each device listed.
-pub fn walk(
-    last: &[u16],
-    root: &[u16],
-    level: &[u8],
-    terms: &[u16],
-    starts: &[u32],
-    postings: &[u32],
+// Walks to the end of a query's run.
+pub fn walk_to_end<'a>(
+    alloc: Global,
+    plant: DeviceTables<'a>,
+    indexes: TwoIndexes<'a>,
     query: Query,
-    listed: &mut [u8; 16],
-) -> Ended {
-    let mut cursors = [0usize; 16];
-    let mut ends = [0usize; 16];
-    place(terms, starts, postings, query, &mut cursors, &mut ends);
-    let mut s = going(query.start, 0, 0, 0);
-    let mut turns: u32 = 100000;
-    while 0 < turns && s.position <= number(last.len()) && !s.is_stopped {
-        s = turn(
-            last,
-            root,
-            level,
-            postings,
-            query,
-            s,
-            &mut cursors,
-            &ends,
-            listed,
-        );
-        turns -= 1;
+) -> Result<Walk<'a>, AllocError> {
+    let mut walk = Walk {
+        position: query.start as usize,
+        passed: 0,
+        moves: 0,
+        listed: Vec::new(alloc),
+        plant,
+        query,
+        cursors: cursors(alloc, indexes, query)?,
+        next: 0,
+    };
+    for _ in 0..TURNS {
+        if !walk.turn()? {
+            break;
+        }
     }
-    Ended {
-        position: s.position,
-        passed: s.passed,
-        moves: s.moves,
-    }
+    Ok(walk)
 }

@@ -1,188 +1,161 @@
 // Damage to tables, indexes and queries, in each way that a row of the refusals names. What comes of it is for the evaluators to say.
-use crate::cells::{put16, put32};
-use crate::numbers::{minus, plus, small};
-use crate::random::draw;
+use crate::make::{MadeIndex, MadePlant};
+use crate::random::Random;
 use query::{Levels, Query};
+use std::alloc::AllocError;
 
-// The row that each place is damaged by, 0 for none: the device tables by 1 to 4, an index by 5 to 9, what is in which index by 15, the query by
-// 10 to 14.
+// The row that each place is damaged by: the device tables by 1 to 4, an index by 5 to 9, what is in which index by 15, the query by 10 to 14.
 #[derive(Clone, Copy)]
 pub struct Damage {
-    pub plant: u32,
-    pub first: u32,
-    pub second: u32,
-    pub filing: u32,
-    pub query: u32,
+    pub plant: Option<u16>,
+    pub first: Option<u16>,
+    pub second: Option<u16>,
+    pub filing: Option<u16>,
+    pub query: Option<u16>,
 }
 
-// That of two rows which lies in low..high, or 0.
-fn one_in(low: u32, high: u32, row: u32, other: u32) -> u32 {
-    if low <= row && row <= high {
-        return row;
-    }
-    if low <= other && other <= high {
-        return other;
-    }
-    0
+// That of two rows which lies in low..=high.
+fn one_in(low: u16, high: u16, row: Option<u16>, other: Option<u16>) -> Option<u16> {
+    let within = |&row: &u16| low <= row && row <= high;
+    row.filter(within).or(other.filter(within))
 }
 
 // Damage by two rows, at one place each.
-pub fn by_rows(row: u32, other: u32) -> Damage {
+pub fn by_rows(row: Option<u16>, other: Option<u16>) -> Damage {
     Damage {
         plant: one_in(1, 4, row, other),
         first: one_in(5, 9, row, other),
-        second: minus(one_in(55, 59, row, other), 50),
+        second: one_in(55, 59, row, other).map(|row| row.saturating_sub(50)),
         filing: one_in(15, 15, row, other),
         query: one_in(10, 14, row, other),
     }
 }
 
-// How many entries of the device tables and of the answer list are lent.
-#[derive(Clone, Copy)]
-pub struct Lengths {
-    pub last: usize,
-    pub root: usize,
-    pub level: usize,
-    pub room: usize,
-}
-
-fn size(n: u32, is_more: bool, is_fewer: bool) -> usize {
-    if is_more {
-        return small(plus(n, 1));
-    }
-    if is_fewer {
-        return small(minus(n, 1));
-    }
-    small(n)
-}
-
-// 1, 14: lengths that differ, or too little room.
-pub fn sizes(seed: &mut u64, plant: u32, query: u32, n: u32) -> Lengths {
-    let way = draw(seed, 2);
-    let extra = draw(seed, 3);
-    Lengths {
-        last: small(n),
-        root: size(n, plant == 1 && way == 0, false),
-        level: size(n, plant == 1 && way == 1, false),
-        room: size(plus(n, minus(extra, query)), false, query == 14),
+// Writes the entry at index i, where there is one.
+fn put<T: Copy>(table: &mut [T], i: u16, x: T) {
+    if let Some(entry) = table.get_mut(usize::from(i)) {
+        *entry = x;
     }
 }
 
-// 5, 7: how many of k terms and starts are lent. Their numbers differ, or there are none.
-pub fn term_count(kind: u32, way: u32, k: u32) -> usize {
-    if kind == 7 && way == 0 {
-        return 0;
+// 1: device tables whose lengths differ.
+pub fn lengths(
+    random: &mut Random,
+    kind: Option<u16>,
+    plant: &mut MadePlant,
+) -> Result<(), AllocError> {
+    match (kind, random.draw(2)) {
+        (Some(1), 0) => plant.root.push(0)?,
+        (Some(1), _) => plant.level.push(0)?,
+        _ => {}
     }
-    size(k, false, kind == 5 && way == 0)
+    Ok(())
 }
 
-pub fn start_count(kind: u32, way: u32, k: u32) -> usize {
-    if kind == 7 && way == 0 {
-        return 0;
+// 14: too little room for the answer list of n devices. That of a sound query has some to spare.
+pub fn room(random: &mut Random, kind: Option<u16>, n: u16) -> u16 {
+    let extra = random.draw(3);
+    match kind {
+        None => n.saturating_add(extra),
+        Some(14) => n.saturating_sub(1),
+        Some(_) => n,
     }
-    size(k, kind == 5 && way != 0, false)
 }
 
 // 2, 3, 4: an entry of the device tables.
-pub fn plant(seed: &mut u64, kind: u32, n: u32, last: &mut [u16; 16], root: &mut [u16; 16]) {
-    let d = draw(seed, n);
-    let x = draw(seed, plus(n, 3));
-    if kind == 2 {
-        put16(last, d, x);
-    }
-    if kind == 3 {
-        put16(last, d, plus(plus(d, 1), draw(seed, minus(n, d))));
-    }
-    if kind == 4 {
-        put16(root, d, x);
+pub fn plant(random: &mut Random, kind: Option<u16>, n: u16, plant: &mut MadePlant) {
+    let d = random.draw(n);
+    let x = random.draw(n.saturating_add(3));
+    match kind {
+        Some(2) => put(&mut plant.last, d, x),
+        Some(3) => {
+            let length = random.draw(n.saturating_sub(d));
+            put(
+                &mut plant.last,
+                d,
+                d.saturating_add(1).saturating_add(length),
+            );
+        }
+        Some(4) => put(&mut plant.root, d, x),
+        _ => {}
     }
 }
 
 // 6: a term of an index, 0 or one above its base that may not rise.
-fn odd_entry(seed: &mut u64, base: u32) -> u32 {
-    if draw(seed, 4) == 0 {
+fn odd_entry(random: &mut Random, base: u16) -> u16 {
+    if random.draw(4) == 0 {
         return 0;
     }
-    plus(base, draw(seed, 6))
+    base.saturating_add(random.draw(6))
 }
 
-// 6, 7, 8: an entry of an index.
+// 6, 7, 8: an entry of an index of k terms.
 pub fn index(
-    seed: &mut u64,
-    kind: u32,
-    base: u32,
-    n: u32,
-    k: u32,
-    p: u32,
-    terms: &mut [u16; 16],
-    starts: &mut [u32; 64],
-    postings: &mut [u32; 64],
+    random: &mut Random,
+    kind: Option<u16>,
+    base: u16,
+    n: u16,
+    k: u16,
+    index: &mut MadeIndex,
 ) {
-    let t = draw(seed, k);
-    let i = draw(seed, p);
-    if kind == 6 {
-        put16(terms, t, odd_entry(seed, base));
+    let p = index.posting_count();
+    let t = random.draw(k);
+    let i = random.draw(p);
+    match kind {
+        Some(6) => put(&mut index.terms, t, odd_entry(random, base)),
+        Some(7) => put(
+            &mut index.starts,
+            t,
+            u32::from(random.draw(p.saturating_add(2))),
+        ),
+        Some(8) => {
+            let most = n.saturating_mul(2).saturating_add(4);
+            put(&mut index.postings, i, u32::from(random.draw(most)));
+        }
+        _ => {}
     }
-    if kind == 7 {
-        put32(starts, t, draw(seed, plus(p, 2)));
+}
+
+// 5, 7: as many starts as terms no more, or none of either.
+pub fn outline(kind: Option<u16>, way: u16, index: &mut MadeIndex) -> Result<(), AllocError> {
+    match (kind, way) {
+        (Some(5), 0) => {
+            index.terms.pop();
+        }
+        (Some(5), _) => index.starts.push(0)?,
+        (Some(7), 0) => {
+            index.terms.clear();
+            index.starts.clear();
+        }
+        _ => {}
     }
-    if kind == 8 {
-        put32(postings, i, draw(seed, plus(plus(n, n), 4)));
-    }
+    Ok(())
 }
 
 // 10, 11, 12, 13: a field of the query.
-pub fn query(seed: &mut u64, kind: u32, n: u32, q: Query) -> Query {
-    let way = draw(seed, 2);
-    let mut required = q.required;
-    let mut forbidden = q.forbidden;
-    if kind == 11 {
-        required.places[0] = odd_term(way);
-    }
-    required.count = odd_count(kind, 0, way, required.count);
-    forbidden.count = odd_count(kind, 1, way, forbidden.count);
-    let wanted = q.levels;
-    let levels = odd_levels(kind, draw(seed, 3), wanted);
-    Query {
-        required: required,
-        forbidden: forbidden,
-        levels: levels,
-        start: odd_start(kind, way, n, q.start),
-        budget: q.budget,
-    }
-}
-
-fn odd_count(kind: u32, side: u32, way: u32, count: usize) -> usize {
-    if kind == 10 && way == side {
-        return 9;
-    }
-    if kind == 11 && side == 0 {
-        return 1;
-    }
-    count
-}
-
-fn odd_term(way: u32) -> u32 {
-    if way == 0 { 0 } else { 65536 }
-}
-
-fn odd_levels(kind: u32, way: u32, levels: Levels) -> Levels {
-    if kind == 12 {
-        return match way {
-            0 => Levels::Range(91, 90),
-            1 => Levels::Range(90, 255),
-            _ => Levels::Range(0, 90),
-        };
-    }
-    levels
-}
-
-fn odd_start(kind: u32, way: u32, n: u32, start: u32) -> u32 {
-    if kind == 13 {
-        if way == 0 {
-            return 0;
+pub fn query(random: &mut Random, kind: Option<u16>, n: u16, sound: Query) -> Query {
+    let mut query = sound;
+    let way = random.draw(2);
+    let window = random.draw(3);
+    match kind {
+        Some(10) if way == 0 => query.required.count = 9,
+        Some(10) => query.forbidden.count = 9,
+        Some(11) => {
+            query.required.places[0] = if way == 0 { 0 } else { 65536 };
+            query.required.count = 1;
         }
-        return plus(n, 2);
+        Some(12) => query.levels = odd_levels(window),
+        Some(13) if way == 0 => query.start = 0,
+        Some(13) => query.start = u32::from(n) + 2,
+        _ => {}
     }
-    start
+    query
+}
+
+fn odd_levels(way: u16) -> Levels {
+    match way {
+        0 => Levels::Range(91, 90),
+        1 => Levels::Range(90, 255),
+        _ => Levels::Range(0, 90),
+    }
 }

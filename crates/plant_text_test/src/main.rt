@@ -2,79 +2,54 @@
 // enough room and with one place too few.
 #![tactic(auto)]
 
-use integers::least;
+use plant_text::Counts;
+use std::fmt::Display;
+use std::io;
+use text::Refused;
 
-const STDOUT_FILENO: i32 = 1;
-
-use plant_text::Outcome;
-
-fn say(words: &[u8]) {
-    io::write_all(STDOUT_FILENO, words);
-}
-
-fn number(n: u64) {
-    io::write_all(STDOUT_FILENO, b" ");
-    io::print_decimal(STDOUT_FILENO, n);
-}
+// Document 01's plant P.
+const PLANT_P: &[u8] =
+    b"(plant\n(dev 120\n(dev 118\n(dev 255\n)\n)\n(dev 121\n(dev 90\n)\n(dev 119\n)\n)\n)\n(mark 7\n(all 2)\n(own 5)\n)\n(mark 9\n(all 4)\n)\n)\n";
 
 // Prints `: made` and the counts, or `: refused`, the number and the line.
-fn tell(name: &[u8], r: Outcome) {
-    say(name);
-    match r {
-        Outcome::Made(d, n, p) => {
-            say(b": made");
-            number(d as u64);
-            number(n as u64);
-            number(p as u64);
-        }
-        Outcome::Refused(x, k) => {
-            say(b": refused");
-            number(x as u64);
-            number(k as u64);
-        }
+fn tell(rt: &HostRuntime, name: &str, read: Result<Counts, Refused>) -> io::Result<()> {
+    match read {
+        Ok(
+            Counts {
+                devices,
+                terms,
+                postings,
+            },
+        ) => println!(rt; "{name}: made {devices} {terms} {postings}"),
+        Err(Refused { line, refusal }) => println!(rt; "{name}: refused {refusal} {line}"),
     }
-    say(b"\n");
 }
 
-fn print8(name: &[u8], table: &[u8]) {
-    say(name);
-    let mut i = 0;
-    while i < table.len() {
-        number(table[i] as u64);
-        i += 1;
+fn print_table<T: Display>(rt: &HostRuntime, name: &str, table: &[T]) -> io::Result<()> {
+    print!(rt; "{name}")?;
+    for entry in table {
+        print!(rt; " {entry}")?;
     }
-    say(b"\n");
+    println!(rt;)
 }
 
-fn print16(name: &[u8], table: &[u16]) {
-    say(name);
-    let mut i = 0;
-    while i < table.len() {
-        number(table[i] as u64);
-        i += 1;
-    }
-    say(b"\n");
-}
-
-fn print32(name: &[u8], table: &[u32]) {
-    say(name);
-    let mut i = 0;
-    while i < table.len() {
-        number(table[i] as u64);
-        i += 1;
-    }
-    say(b"\n");
-}
-
-// Reads a text into tables of eight entries, and prints those where they are to be shown.
-fn read(name: &[u8], text: &[u8], shown: bool) {
-    let mut last: [u16; 8] = [9; 8];
-    let mut root: [u16; 8] = [9; 8];
-    let mut level: [u8; 8] = [9; 8];
-    let mut terms: [u16; 8] = [9; 8];
-    let mut starts: [u32; 8] = [9; 8];
-    let mut postings: [u32; 8] = [9; 8];
-    let r = plant_text::read(
+// Reads a text into tables of these lengths, device tables first, and prints them where they are to be shown.
+fn read(
+    rt: &HostRuntime,
+    name: &str,
+    text: &[u8],
+    lengths: [usize; 6],
+    shown: bool,
+) -> io::Result<()> {
+    let alloc = rt.alloc();
+    let [d, e, f, n, o, p] = lengths;
+    let mut last = vec![in alloc; 9u16; d]?;
+    let mut root = vec![in alloc; 9u16; e]?;
+    let mut level = vec![in alloc; 9u8; f]?;
+    let mut terms = vec![in alloc; 9u16; n]?;
+    let mut starts = vec![in alloc; 9u32; o]?;
+    let mut postings = vec![in alloc; 9u32; p]?;
+    let read = plant_text::read(
         text,
         &mut last,
         &mut root,
@@ -83,195 +58,194 @@ fn read(name: &[u8], text: &[u8], shown: bool) {
         &mut starts,
         &mut postings,
     );
-    tell(name, r);
+    tell(rt, name, read)?;
     if shown {
-        print16(b"last", &last);
-        print16(b"root", &root);
-        print8(b"level", &level);
-        print16(b"terms", &terms);
-        print32(b"starts", &starts);
-        print32(b"postings", &postings);
+        print_table(rt, "last", &last)?;
+        print_table(rt, "root", &root)?;
+        print_table(rt, "level", &level)?;
+        print_table(rt, "terms", &terms)?;
+        print_table(rt, "starts", &starts)?;
+        print_table(rt, "postings", &postings)?;
     }
+    Ok(())
 }
 
-fn outcome(name: &[u8], text: &[u8]) {
-    read(name, text, false);
+fn outcome(rt: &HostRuntime, name: &str, text: &[u8]) -> io::Result<()> {
+    read(rt, name, text, [8; 6], false)
 }
 
-fn show(name: &[u8], text: &[u8]) {
-    read(name, text, true);
+fn show(rt: &HostRuntime, name: &str, text: &[u8]) -> io::Result<()> {
+    read(rt, name, text, [8; 6], true)
 }
 
 // Reads a text into device tables of 33 entries.
-fn tiers(name: &[u8], text: &[u8]) {
-    let mut last: [u16; 33] = [9; 33];
-    let mut root: [u16; 33] = [9; 33];
-    let mut level: [u8; 33] = [9; 33];
-    let mut terms: [u16; 1] = [9; 1];
-    let mut starts: [u32; 1] = [9; 1];
-    let mut postings: [u32; 1] = [9; 1];
-    let r = plant_text::read(
-        text,
-        &mut last,
-        &mut root,
-        &mut level,
-        &mut terms,
-        &mut starts,
-        &mut postings,
-    );
-    tell(name, r);
+fn tiers(rt: &HostRuntime, name: &str, text: &[u8]) -> io::Result<()> {
+    read(rt, name, text, [33, 33, 33, 1, 1, 1], false)
 }
 
-// Reads plant P into tables with so many places each, at most eight.
-fn places(name: &[u8], a: usize, b: usize, c: usize, d: usize, e: usize, f: usize) {
-    let mut last: [u16; 8] = [9; 8];
-    let mut root: [u16; 8] = [9; 8];
-    let mut level: [u8; 8] = [9; 8];
-    let mut terms: [u16; 8] = [9; 8];
-    let mut starts: [u32; 8] = [9; 8];
-    let mut postings: [u32; 8] = [9; 8];
-    let a = least(a, 8);
-    let b = least(b, 8);
-    let c = least(c, 8);
-    let d = least(d, 8);
-    let e = least(e, 8);
-    let f = least(f, 8);
-    let text =
-        b"(plant\n(dev 120\n(dev 118\n(dev 255\n)\n)\n(dev 121\n(dev 90\n)\n(dev 119\n)\n)\n)\n(mark 7\n(all 2)\n(own 5)\n)\n(mark 9\n(all 4)\n)\n)\n";
-    let r = plant_text::read(
-        text,
-        &mut last[..a],
-        &mut root[..b],
-        &mut level[..c],
-        &mut terms[..d],
-        &mut starts[..e],
-        &mut postings[..f],
-    );
-    tell(name, r);
+// Reads plant P into tables with so many places each.
+fn places(rt: &HostRuntime, name: &str, lengths: [usize; 6]) -> io::Result<()> {
+    read(rt, name, PLANT_P, lengths, false)
 }
 
 // 20, and 24 at the largest length: one unfinished line of spaces.
-fn long() {
-    let most: [u8; 65536] = [32; 65536];
-    let over: [u8; 65537] = [32; 65537];
-    outcome(b"65,536 bytes", &most);
-    outcome(b"65,537 bytes", &over);
+fn long(rt: &HostRuntime) -> io::Result<()> {
+    let most = [b' '; 65_536];
+    let over = [b' '; 65_537];
+    outcome(rt, "65,536 bytes", &most)?;
+    outcome(rt, "65,537 bytes", &over)?;
+    Ok(())
 }
 
 // 21: not a form, or a form that cannot stand there.
-fn not_forms() {
-    outcome(b"a closing bracket alone", b")\n");
-    outcome(b"a device first", b"(dev 1\n");
-    outcome(b"not a form", b"(plant\n(dev\n)\n)\n");
-    outcome(b"a leading zero", b"(plant\n(dev 01\n)\n)\n");
-    outcome(b"two spaces", b"(plant\n(dev  1\n)\n)\n");
-    outcome(b"a posting outside a mark", b"(plant\n(own 1)\n)\n");
-    outcome(b"a mark in a device", b"(plant\n(dev 1\n(mark 7\n)\n)\n)\n");
+fn not_forms(rt: &HostRuntime) -> io::Result<()> {
+    outcome(rt, "a closing bracket alone", b")\n")?;
+    outcome(rt, "a device first", b"(dev 1\n")?;
+    outcome(rt, "not a form", b"(plant\n(dev\n)\n)\n")?;
+    outcome(rt, "a leading zero", b"(plant\n(dev 01\n)\n)\n")?;
+    outcome(rt, "two spaces", b"(plant\n(dev  1\n)\n)\n")?;
+    outcome(rt, "a posting outside a mark", b"(plant\n(own 1)\n)\n")?;
     outcome(
-        b"a device after a mark",
+        rt,
+        "a mark in a device",
+        b"(plant\n(dev 1\n(mark 7\n)\n)\n)\n",
+    )?;
+    outcome(
+        rt,
+        "a device after a mark",
         b"(plant\n(mark 7\n)\n(dev 1\n)\n)\n",
-    );
-    outcome(b"a second plant", b"(plant\n(plant\n");
-    outcome(b"an empty line", b"(plant\n\n)\n");
+    )?;
+    outcome(rt, "a second plant", b"(plant\n(plant\n")?;
+    outcome(rt, "an empty line", b"(plant\n\n)\n")?;
+    Ok(())
 }
 
 // 22: a level, a mark or a device out of range.
-fn out_of_range() {
-    outcome(b"level 256", b"(plant\n(dev 256\n)\n)\n");
+fn out_of_range(rt: &HostRuntime) -> io::Result<()> {
+    outcome(rt, "level 256", b"(plant\n(dev 256\n)\n)\n")?;
     outcome(
-        b"a long level",
+        rt,
+        "a long level",
         b"(plant\n(dev 1\n)\n(dev 18446744073709551616\n)\n)\n",
-    );
+    )?;
     outcome(
-        b"mark 0",
+        rt,
+        "mark 0",
         b"(plant\n(dev 1\n(dev 2\n(dev 3\n)\n)\n(dev 4\n)\n)\n(dev 5\n)\n(mark 0\n)\n)\n",
-    );
+    )?;
     outcome(
-        b"mark 65,536",
+        rt,
+        "mark 65,536",
         b"(plant\n(dev 1\n(dev 2\n(dev 3\n)\n)\n(dev 4\n)\n)\n(dev 5\n)\n(mark 65536\n)\n)\n",
-    );
+    )?;
     outcome(
-        b"device 0",
+        rt,
+        "device 0",
         b"(plant\n(dev 1\n(dev 2\n(dev 3\n)\n)\n(dev 4\n)\n)\n(dev 5\n)\n(mark 7\n(own 0)\n)\n)\n",
-    );
+    )?;
     outcome(
-        b"device above N",
+        rt,
+        "device above N",
         b"(plant\n(dev 1\n(dev 2\n(dev 3\n)\n)\n(dev 4\n)\n)\n(dev 5\n)\n(mark 7\n(own 5)\n(all 6)\n)\n)\n",
-    );
+    )?;
+    Ok(())
 }
 
 // 24 and 25: the bytes end too soon, or go on after the close.
-fn ends() {
-    outcome(b"no bytes", b"");
-    outcome(b"the plant line unfinished", b"(plant");
-    outcome(b"the plant line alone", b"(plant\n");
-    outcome(b"a device open", b"(plant\n(dev 1\n)\n");
-    outcome(b"a mark open", b"(plant\n(mark 7\n");
-    outcome(b"the close unfinished", b"(plant\n)");
-    outcome(b"a bracket after the close", b"(plant\n)\n)\n");
-    outcome(b"a space after the close", b"(plant\n)\n ");
+fn ends(rt: &HostRuntime) -> io::Result<()> {
+    outcome(rt, "no bytes", b"")?;
+    outcome(rt, "the plant line unfinished", b"(plant")?;
+    outcome(rt, "the plant line alone", b"(plant\n")?;
+    outcome(rt, "a device open", b"(plant\n(dev 1\n)\n")?;
+    outcome(rt, "a mark open", b"(plant\n(mark 7\n")?;
+    outcome(rt, "the close unfinished", b"(plant\n)")?;
+    outcome(rt, "a bracket after the close", b"(plant\n)\n)\n")?;
+    outcome(rt, "a space after the close", b"(plant\n)\n ")?;
+    Ok(())
 }
 
 // 27: a table has no place left; it comes before 28.
-fn no_places() {
+fn no_places(rt: &HostRuntime) -> io::Result<()> {
     outcome(
-        b"a ninth device",
+        rt,
+        "a ninth device",
         b"(plant\n(dev 0\n)\n(dev 0\n)\n(dev 0\n)\n(dev 0\n)\n(dev 0\n)\n(dev 0\n)\n(dev 0\n)\n(dev 0\n)\n(dev 0\n)\n)\n",
-    );
+    )?;
     outcome(
-        b"a ninth mark",
+        rt,
+        "a ninth mark",
         b"(plant\n(mark 1\n)\n(mark 2\n)\n(mark 3\n)\n(mark 4\n)\n(mark 5\n)\n(mark 6\n)\n(mark 7\n)\n(mark 8\n)\n(mark 9\n)\n)\n",
-    );
+    )?;
     outcome(
-        b"a ninth mark that falls",
+        rt,
+        "a ninth mark that falls",
         b"(plant\n(mark 1\n)\n(mark 2\n)\n(mark 3\n)\n(mark 4\n)\n(mark 5\n)\n(mark 6\n)\n(mark 7\n)\n(mark 8\n)\n(mark 2\n)\n)\n",
-    );
+    )?;
     outcome(
-        b"a ninth posting",
+        rt,
+        "a ninth posting",
         b"(plant\n(dev 1\n(dev 2\n(dev 3\n)\n)\n(dev 4\n)\n)\n(dev 5\n)\n(mark 1\n(own 1)\n(own 2)\n(own 3)\n(own 4)\n(own 5)\n)\n(mark 2\n(own 1)\n(own 2)\n(own 3)\n(own 4)\n(own 5)\n)\n)\n",
-    );
+    )?;
+    Ok(())
 }
 
 // 28 and 29: marks or devices that do not rise, and redundant postings; then texts that are taken.
-fn orders() {
-    outcome(b"a mark again", b"(plant\n(mark 7\n)\n(mark 7\n)\n)\n");
-    outcome(b"a mark that falls", b"(plant\n(mark 7\n)\n(mark 6\n)\n)\n");
+fn orders(rt: &HostRuntime) -> io::Result<()> {
+    outcome(rt, "a mark again", b"(plant\n(mark 7\n)\n(mark 7\n)\n)\n")?;
     outcome(
-        b"a device again",
+        rt,
+        "a mark that falls",
+        b"(plant\n(mark 7\n)\n(mark 6\n)\n)\n",
+    )?;
+    outcome(
+        rt,
+        "a device again",
         b"(plant\n(dev 1\n(dev 2\n(dev 3\n)\n)\n(dev 4\n)\n)\n(dev 5\n)\n(mark 7\n(own 2)\n(all 2)\n)\n)\n",
-    );
+    )?;
     outcome(
-        b"a device that falls",
+        rt,
+        "a device that falls",
         b"(plant\n(dev 1\n(dev 2\n(dev 3\n)\n)\n(dev 4\n)\n)\n(dev 5\n)\n(mark 7\n(own 2)\n(all 1)\n)\n)\n",
-    );
+    )?;
     outcome(
-        b"a device that falls in a branch",
+        rt,
+        "a device that falls in a branch",
         b"(plant\n(dev 1\n(dev 2\n(dev 3\n)\n)\n(dev 4\n)\n)\n(dev 5\n)\n(mark 7\n(all 1)\n(own 5)\n(own 2)\n)\n)\n",
-    );
+    )?;
     outcome(
-        b"all 2 and own 3",
+        rt,
+        "all 2 and own 3",
         b"(plant\n(dev 1\n(dev 2\n(dev 3\n)\n)\n(dev 4\n)\n)\n(dev 5\n)\n(mark 7\n(all 2)\n(own 3)\n)\n)\n",
-    );
+    )?;
     outcome(
-        b"all 1 and all 4",
+        rt,
+        "all 1 and all 4",
         b"(plant\n(dev 1\n(dev 2\n(dev 3\n)\n)\n(dev 4\n)\n)\n(dev 5\n)\n(mark 7\n(all 1)\n(all 4)\n)\n)\n",
-    );
+    )?;
     outcome(
-        b"own 1 and all 2",
+        rt,
+        "own 1 and all 2",
         b"(plant\n(dev 1\n(dev 2\n(dev 3\n)\n)\n(dev 4\n)\n)\n(dev 5\n)\n(mark 7\n(own 1)\n(all 2)\n)\n)\n",
-    );
+    )?;
     outcome(
-        b"all 1 and own 5",
+        rt,
+        "all 1 and own 5",
         b"(plant\n(dev 1\n(dev 2\n(dev 3\n)\n)\n(dev 4\n)\n)\n(dev 5\n)\n(mark 7\n(all 1)\n(own 5)\n)\n)\n",
-    );
-    outcome(b"no devices", b"(plant\n)\n");
-    outcome(b"a mark without postings", b"(plant\n(mark 65535\n)\n)\n");
+    )?;
+    outcome(rt, "no devices", b"(plant\n)\n")?;
+    outcome(
+        rt,
+        "a mark without postings",
+        b"(plant\n(mark 65535\n)\n)\n",
+    )?;
+    Ok(())
 }
 
 // 23: 32 tiers are taken and a 33rd is not; 22 comes before it.
-fn deep() {
+fn deep(rt: &HostRuntime) -> io::Result<()> {
     tiers(
-        b"32 tiers",
+        rt,
+        "32 tiers",
         b"(plant\n\
         (dev 0\n(dev 0\n(dev 0\n(dev 0\n(dev 0\n(dev 0\n(dev 0\n(dev 0\n\
         (dev 0\n(dev 0\n(dev 0\n(dev 0\n(dev 0\n(dev 0\n(dev 0\n(dev 0\n\
@@ -280,9 +254,10 @@ fn deep() {
         )\n)\n)\n)\n)\n)\n)\n)\n)\n)\n)\n)\n)\n)\n)\n)\n\
         )\n)\n)\n)\n)\n)\n)\n)\n)\n)\n)\n)\n)\n)\n)\n)\n\
         )\n",
-    );
+    )?;
     tiers(
-        b"33 tiers",
+        rt,
+        "33 tiers",
         b"(plant\n\
         (dev 0\n(dev 0\n(dev 0\n(dev 0\n(dev 0\n(dev 0\n(dev 0\n(dev 0\n\
         (dev 0\n(dev 0\n(dev 0\n(dev 0\n(dev 0\n(dev 0\n(dev 0\n(dev 0\n\
@@ -292,9 +267,10 @@ fn deep() {
         )\n)\n)\n)\n)\n)\n)\n)\n)\n)\n)\n)\n)\n)\n)\n)\n\
         )\n)\n)\n)\n)\n)\n)\n)\n)\n)\n)\n)\n)\n)\n)\n)\n\
         )\n)\n",
-    );
+    )?;
     tiers(
-        b"33 tiers, level 256",
+        rt,
+        "33 tiers, level 256",
         b"(plant\n\
         (dev 0\n(dev 0\n(dev 0\n(dev 0\n(dev 0\n(dev 0\n(dev 0\n(dev 0\n\
         (dev 0\n(dev 0\n(dev 0\n(dev 0\n(dev 0\n(dev 0\n(dev 0\n(dev 0\n\
@@ -304,36 +280,38 @@ fn deep() {
         )\n)\n)\n)\n)\n)\n)\n)\n)\n)\n)\n)\n)\n)\n)\n)\n\
         )\n)\n)\n)\n)\n)\n)\n)\n)\n)\n)\n)\n)\n)\n)\n)\n\
         )\n)\n",
-    );
+    )?;
+    Ok(())
 }
 
 // Exactly enough room for plant P, and one place too few in each table.
-fn rooms() {
-    places(b"enough", 6, 6, 6, 2, 2, 3);
-    places(b"last", 5, 6, 6, 2, 2, 3);
-    places(b"root", 6, 5, 6, 2, 2, 3);
-    places(b"level", 6, 6, 5, 2, 2, 3);
-    places(b"terms", 6, 6, 6, 1, 2, 3);
-    places(b"starts", 6, 6, 6, 2, 1, 3);
-    places(b"postings", 6, 6, 6, 2, 2, 2);
-    places(b"none", 0, 0, 0, 0, 0, 0);
+fn rooms(rt: &HostRuntime) -> io::Result<()> {
+    places(rt, "enough", [6, 6, 6, 2, 2, 3])?;
+    places(rt, "last", [5, 6, 6, 2, 2, 3])?;
+    places(rt, "root", [6, 5, 6, 2, 2, 3])?;
+    places(rt, "level", [6, 6, 5, 2, 2, 3])?;
+    places(rt, "terms", [6, 6, 6, 1, 2, 3])?;
+    places(rt, "starts", [6, 6, 6, 2, 1, 3])?;
+    places(rt, "postings", [6, 6, 6, 2, 2, 2])?;
+    places(rt, "none", [0, 0, 0, 0, 0, 0])?;
+    Ok(())
 }
 
-fn main() {
+fn main(rt: HostRuntime) -> io::Result<()> {
+    let rt = &rt;
+    show(rt, "plant P", PLANT_P)?;
     show(
-        b"plant P",
-        b"(plant\n(dev 120\n(dev 118\n(dev 255\n)\n)\n(dev 121\n(dev 90\n)\n(dev 119\n)\n)\n)\n(mark 7\n(all 2)\n(own 5)\n)\n(mark 9\n(all 4)\n)\n)\n",
-    );
-    show(
-        b"plant P without its close",
+        rt,
+        "plant P without its close",
         b"(plant\n(dev 120\n(dev 118\n(dev 255\n)\n)\n(dev 121\n(dev 90\n)\n(dev 119\n)\n)\n)\n(mark 7\n(all 2)\n(own 5)\n)\n(mark 9\n(all 4)\n)\n",
-    );
-    long();
-    not_forms();
-    out_of_range();
-    deep();
-    ends();
-    no_places();
-    orders();
-    rooms();
+    )?;
+    long(rt)?;
+    not_forms(rt)?;
+    out_of_range(rt)?;
+    deep(rt)?;
+    ends(rt)?;
+    no_places(rt)?;
+    orders(rt)?;
+    rooms(rt)?;
+    Ok(())
 }

@@ -2,17 +2,19 @@
 // small plants; 32 tiers and 33; the longest text and one device more; texts and tables there and back.
 #![tactic(auto)]
 
+use std::io;
+
 mod back;
 mod limits;
 mod parts;
 mod plants;
 mod print;
 
-fn main() {
-    plants::rooms();
-    plants::small();
-    limits::tiers();
-    limits::lengths();
-    back::texts();
-    back::tables();
+fn main(rt: HostRuntime) -> io::Result<()> {
+    plants::rooms(&rt)?;
+    plants::small(&rt)?;
+    limits::tiers(&rt)?;
+    limits::lengths(&rt)?;
+    back::texts(&rt)?;
+    back::tables(&rt)
 }

@@ -4,6 +4,7 @@
 use std::io;
 use std::io::Read;
 
+// Kept: program_test has these lines too; a crate for them would be longer.
 // The system's number for a read of an input that is not open.
 const BAD_FILE_DESCRIPTOR: i32 = 9;
 

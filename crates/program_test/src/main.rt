@@ -32,41 +32,35 @@ fn run<R: Files + Print + Alloc, I: Read>(
     rt.write_all(said.as_slice())
 }
 
-// The input is a file that is open, as standard input is when the program begins.
-fn run_on_file<R: Files + Print + Alloc>(
-    rt: &R,
-    name: &str,
-    ask: &str,
-    plant: &str,
-) -> io::Result<()> {
-    let mut input = fs::open(rt, ask)?;
-    run(rt, name, &mut input, plant)
-}
-
-// The plant or the ask cannot be read: that comes before all else, also where the other would be refused.
-fn unreadable<R: Files + Print + Alloc>(rt: &R) -> io::Result<()> {
-    run_on_file(rt, "missing plant", "unfinished_ask.txt", "missing.txt")?;
-    run_on_file(rt, "plant is folder", "ask.txt", "folder")?;
-    run(rt, "closed input", &mut ClosedInput, "refused_plant.txt")?;
-    run_on_file(rt, "ask is folder", "folder", "refused_plant.txt")
-}
-
-// Both are read and one is refused: the plant before the ask, the ask before the query.
-fn refused<R: Files + Print + Alloc>(rt: &R) -> io::Result<()> {
-    run_on_file(rt, "empty input", "empty_ask.txt", "plant.txt")?;
-    run_on_file(
-        rt,
+// Of each run its name, the file of the ask, if the input is not a closed one, and the file of the plant.
+const RUNS: [(&str, Option<&str>, &str); 10] = [
+    // The plant or the ask cannot be read: that comes before all else, also where the other would be refused.
+    ("missing plant", Some("unfinished_ask.txt"), "missing.txt"),
+    ("plant is folder", Some("ask.txt"), "folder"),
+    ("closed input", None, "refused_plant.txt"),
+    ("ask is folder", Some("folder"), "refused_plant.txt"),
+    // Both are read and one is refused: the plant before the ask, the ask before the query.
+    ("empty input", Some("empty_ask.txt"), "plant.txt"),
+    (
         "refused plant",
-        "unfinished_ask.txt",
+        Some("unfinished_ask.txt"),
         "refused_plant.txt",
-    )?;
-    run_on_file(rt, "refused ask", "refused_ask.txt", "plant.txt")?;
-    run_on_file(rt, "refused query", "refused_query.txt", "plant.txt")?;
-    run_on_file(rt, "long plant", "ask.txt", "long_plant.txt")
-}
+    ),
+    ("refused ask", Some("refused_ask.txt"), "plant.txt"),
+    ("refused query", Some("refused_query.txt"), "plant.txt"),
+    ("long plant", Some("ask.txt"), "long_plant.txt"),
+    // Neither is refused.
+    ("answered", Some("ask.txt"), "plant.txt"),
+];
 
+// Kept: each of program_missing_plant and the seven beside it is one call of `program::run` too, in a crate of its own, since a program has one
+// standard input and one folder of files.
 fn main(rt: HostRuntime) -> io::Result<()> {
-    unreadable(&rt)?;
-    refused(&rt)?;
-    run_on_file(&rt, "answered", "ask.txt", "plant.txt")
+    for (name, ask, plant) in RUNS {
+        match ask {
+            Some(ask) => run(&rt, name, &mut fs::open(&rt, ask)?, plant)?,
+            None => run(&rt, name, &mut ClosedInput, plant)?,
+        }
+    }
+    Ok(())
 }

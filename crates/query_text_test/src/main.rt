@@ -2,130 +2,57 @@
 // them: a line with a name, the text, and a `~`.
 #![tactic(auto)]
 
-ghost use Rattle.std.specs.Prelude.{◌≤◌, ◌<◌, length};
-
-const STDIN_FILENO: i32 = 0;
-
-const STDOUT_FILENO: i32 = 1;
-
 use query::{Levels, Query, Terms};
+use std::io::{self, Read};
+use text::Refused;
 
-fn print(bytes: &[u8]) {
-    io::write_all(STDOUT_FILENO, bytes);
+// Prints the count of terms in use and all places.
+fn show_terms(rt: &impl Print, name: &str, terms: Terms) -> io::Result<()> {
+    print!(rt; "{name} {} of", terms.count)?;
+    for term in terms.places {
+        print!(rt; " {term}")?;
+    }
+    print!(rt; ", ")
 }
 
-fn number(n: u32) {
-    print(b" ");
-    io::print_decimal(STDOUT_FILENO, n as u64);
+fn show_levels(rt: &impl Print, levels: Levels) -> io::Result<()> {
+    match levels {
+        Levels::Any => print!(rt; "any level"),
+        Levels::TrueOnly => print!(rt; "true levels"),
+        Levels::Range(low, high) => print!(rt; "level {low} {high}"),
+    }
 }
 
-// Prints all places and the count of terms in use.
-fn show_terms(name: &[u8], terms: Terms) {
-    let list = terms.places;
-    print(name);
-    print(b" ");
-    io::print_decimal(STDOUT_FILENO, terms.count as u64);
-    print(b" of");
-    number(list[0]);
-    number(list[1]);
-    number(list[2]);
-    number(list[3]);
-    number(list[4]);
-    number(list[5]);
-    number(list[6]);
-    number(list[7]);
+fn show(rt: &impl Print, query: Query) -> io::Result<()> {
+    show_terms(rt, "required", query.required)?;
+    show_terms(rt, "forbidden", query.forbidden)?;
+    show_levels(rt, query.levels)?;
+    println!(rt; ", start {}, budget {}", query.start, query.budget)
 }
 
-fn levels(l: Levels) {
-    match l {
-        Levels::Any => {
-            print(b", any level");
+// Prints `name: refusal line` and the query: an empty one, where the text is refused.
+fn read(rt: &impl Print, name: &str, text: &[u8]) -> io::Result<()> {
+    match query_text::read(text) {
+        Ok(query) => {
+            println!(rt; "{name}: 0 0")?;
+            show(rt, query)
         }
-        Levels::TrueOnly => {
-            print(b", true levels");
-        }
-        Levels::Range(low, high) => {
-            print(b", level");
-            number(low);
-            number(high);
+        Err(Refused { line, refusal }) => {
+            println!(rt; "{name}: {refusal} {line}")?;
+            show(rt, Query::empty())
         }
     }
 }
 
-fn show(q: Query) {
-    let required = q.required;
-    let forbidden = q.forbidden;
-    show_terms(b"required", required);
-    show_terms(b", forbidden", forbidden);
-    let l = q.levels;
-    levels(l);
-    print(b", start");
-    number(q.start);
-    print(b", budget");
-    number(q.budget);
-    print(b"\n");
-}
-
-// Prints `name: refusal line` and the query.
-fn read(name: &[u8], text: &[u8]) {
-    let r = query_text::read(text);
-    print(name);
-    print(b":");
-    number(r.refusal);
-    number(r.line);
-    print(b"\n");
-    let q = r.query;
-    show(q);
-}
-
-// The index of the first byte b from an index on, or the length.
-fn find(s: &[u8], from: usize, b: u8) -> usize
-    requires { from ≤ length s.now }
-    ensures { (from ≤ result) × (result ≤ length s.now) }
-{
-    let mut i = from;
-    while i < s.len() {
-        if s[i] == b {
-            return i;
+// The last two are a text of 4,096 bytes that is one unfinished line, and one of 4,097.
+fn main(rt: HostRuntime) -> io::Result<()> {
+    let mut input = String::new(rt.alloc());
+    rt.reader().read_to_string(&mut input)?;
+    for case in input.as_str().split('~') {
+        if let Some((name, text)) = case.split_once('\n') {
+            read(&rt, name, text.as_bytes())?;
         }
-        i += 1;
     }
-    i
-}
-
-// Reads the text of the case that begins at `at`, and answers where the next begins.
-fn read_case(s: &[u8], at: usize) -> usize
-    requires { at < length s.now }
-    ensures { at < result }
-{
-    let name = find(s, at, 10);
-    if name == s.len() {
-        return name + 1;
-    }
-    let start = name + 1;
-    let end = find(s, start, 126);
-    read(&s[at..name], &s[start..end]);
-    end + 1
-}
-
-fn read_cases(s: &[u8]) {
-    let mut at = 0;
-    while at < s.len() {
-        at = read_case(s, at);
-    }
-}
-
-// A text of 4,096 bytes that is one unfinished line, and one of 4,097.
-fn lengths() {
-    let longest = [120; 4096];
-    read(b"33 in 4,096 bytes", &longest);
-    let longer = [120; 4097];
-    read(b"30, 4,097 bytes", &longer);
-}
-
-fn main() {
-    let mut buffer = io::large_buffer();
-    let n = io::read_full(STDIN_FILENO, &mut buffer);
-    read_cases(&buffer[..n]);
-    lengths();
+    read(&rt, "33 in 4,096 bytes", &[b'x'; 4096])?;
+    read(&rt, "30, 4,097 bytes", &[b'x'; 4097])
 }

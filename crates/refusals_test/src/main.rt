@@ -2,100 +2,81 @@
 // and 14 cannot arise from text, nor 55 to 59, since the second index is handed in empty.
 #![tactic(auto)]
 
-mod make;
+use std::alloc::{AllocError, Global};
+use std::io;
 
-use io::write_all;
+const PLANTS: [&str; 7] = [
+    "\n",
+    "(plant\n(mark 0\n",
+    "",
+    "(plant\n)\n\n",
+    "(plant\n(mark 1\n)\n(mark 1\n",
+    "(plant\n(dev 0\n(dev 0\n)\n)\n(mark 1\n(all 1)\n(own 2)\n",
+    "(plant\n(mark 32768\n)\n)\n",
+];
 
-// Standard output.
-const STDOUT_FILENO: i32 = 1;
+const QUERIES: [&str; 8] = [
+    "\n",
+    "(ask\n(need 4294967296)\n",
+    "",
+    "(ask\n)\n\n",
+    "(ask\n(need 1)\n(need 1)\n(need 1)\n(need 1)\n(need 1)\n(need 1)\n(need 1)\n(need 1)\n(need 1)\n",
+    "(ask\n(need 0)\n)\n",
+    "(ask\n(level 0 0)\n)\n",
+    "(ask\n(from 0)\n)\n",
+];
 
-fn print_answer(plant: &[u8], query: &[u8]) {
-    let mut out = [0u8; 16384];
+fn print_answer<R: Print>(rt: &R, plant: &[u8], query: &[u8]) -> io::Result<()> {
+    let mut out = [0; 16384];
     let n = respond::respond(plant, query, &mut out);
-    write_all(STDOUT_FILENO, &out[..n]);
-    write_all(STDOUT_FILENO, b"\n");
+    rt.write_all(&out[..n])?;
+    println!(rt; "")
 }
 
-// Prints a plant text and its answer.
-fn plant(text: &[u8]) {
-    write_all(STDOUT_FILENO, text);
-    print_answer(text, b"(ask\n)\n");
+// Prints what stands for a plant text, and the text's answer.
+fn plant<R: Print>(rt: &R, shown: &str, text: &[u8]) -> io::Result<()> {
+    print!(rt; "{shown}")?;
+    print_answer(rt, text, b"(ask\n)\n")
 }
 
-// Prints a query text and its answer over the empty plant.
-fn query(text: &[u8]) {
-    write_all(STDOUT_FILENO, text);
-    print_answer(b"(plant\n)\n", text);
+// The same for a query text, over the empty plant.
+fn query<R: Print>(rt: &R, shown: &str, text: &[u8]) -> io::Result<()> {
+    print!(rt; "{shown}")?;
+    print_answer(rt, b"(plant\n)\n", text)
 }
 
-fn plants() {
-    plant(b"\n");
-    plant(b"(plant\n(mark 0\n");
-    plant(b"");
-    plant(b"(plant\n)\n\n");
-    plant(b"(plant\n(mark 1\n)\n(mark 1\n");
-    plant(b"(plant\n(dev 0\n(dev 0\n)\n)\n(mark 1\n(all 1)\n(own 2)\n");
-    plant(b"(plant\n(mark 32768\n)\n)\n");
-}
-
-fn queries() {
-    query(b"\n");
-    query(b"(ask\n(need 4294967296)\n");
-    query(b"");
-    query(b"(ask\n)\n\n");
-    query(
-        b"(ask\n(need 1)\n(need 1)\n(need 1)\n(need 1)\n(need 1)\n(need 1)\n(need 1)\n(need 1)\n(need 1)\n",
-    );
-    query(b"(ask\n(need 0)\n)\n");
-    query(b"(ask\n(level 0 0)\n)\n");
-    query(b"(ask\n(from 0)\n)\n");
-}
-
-fn deep_plant() {
-    plant(
-        b"(plant\n\
-        (dev 0\n(dev 0\n(dev 0\n(dev 0\n(dev 0\n(dev 0\n(dev 0\n(dev 0\n\
-        (dev 0\n(dev 0\n(dev 0\n(dev 0\n(dev 0\n(dev 0\n(dev 0\n(dev 0\n\
-        (dev 0\n(dev 0\n(dev 0\n(dev 0\n(dev 0\n(dev 0\n(dev 0\n(dev 0\n\
-        (dev 0\n(dev 0\n(dev 0\n(dev 0\n(dev 0\n(dev 0\n(dev 0\n(dev 0\n\
-        (dev 0\n",
-    );
-}
-
-fn long_plant() {
-    let text = [0u8; 65537];
-    write_all(STDOUT_FILENO, b"65,537 bytes\n");
-    print_answer(&text, b"(ask\n)\n");
-}
-
-fn long_query() {
-    let text = [0u8; 4097];
-    write_all(STDOUT_FILENO, b"4,097 bytes\n");
-    print_answer(b"(plant\n)\n", &text);
-}
-
-fn print_front(text: &[u8], n: usize) {
-    if n <= text.len() {
-        print_answer(&text[..n], b"(ask\n)\n");
+// 33 devices, one in the other.
+fn deep_plant(alloc: Global) -> Result<String, AllocError> {
+    let mut text = String::from_str(alloc, "(plant\n")?;
+    for _ in 0..33 {
+        text.push_str("(dev 0\n")?;
     }
+    Ok(text)
 }
 
-fn print_part(text: &[u8; 4096], n: usize) {
-    print_front(text, n);
+// Terms 1 to 257, one more than there is room for, closed but for the last.
+fn full_plant(alloc: Global) -> Result<String, AllocError> {
+    let mut text = String::from_str(alloc, "(plant\n")?;
+    for n in 1..257 {
+        write!(text, "(mark {n}\n)\n")?;
+    }
+    text.push_str("(mark 257\n")?;
+    Ok(text)
 }
 
-fn full_plant() {
-    let mut text = [0u8; 4096];
-    let n = make::terms(&mut text, 257);
-    write_all(STDOUT_FILENO, b"257 marks\n");
-    print_part(&text, n);
-}
-
-fn main() {
-    long_plant();
-    plants();
-    deep_plant();
-    full_plant();
-    long_query();
-    queries();
+fn main(rt: HostRuntime) -> io::Result<()> {
+    let alloc = rt.alloc();
+    let long_plant = vec![in alloc; 0; 65537]?;
+    plant(&rt, "65,537 bytes\n", &long_plant)?;
+    for text in PLANTS {
+        plant(&rt, text, text.as_bytes())?;
+    }
+    let deep = deep_plant(alloc)?;
+    plant(&rt, deep.as_str(), deep.as_bytes())?;
+    plant(&rt, "257 marks\n", full_plant(alloc)?.as_bytes())?;
+    query(&rt, "4,097 bytes\n", &[0; 4097])?;
+    for text in QUERIES {
+        query(&rt, text, text.as_bytes())?;
+    }
+    Ok(())
 }

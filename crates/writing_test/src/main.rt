@@ -1,58 +1,49 @@
 // Writes numbers and words into a buffer of 22 dots, at its front, at its end and where there is no room, and prints it with the count.
 #![tactic(auto)]
 
-const STDOUT_FILENO: i32 = 1;
+use std::io::{self, Write};
 
-fn print(out: &[u8], count: usize) {
-    io::write_all(STDOUT_FILENO, out);
-    io::write_all(STDOUT_FILENO, b" ");
-    io::print_decimal(STDOUT_FILENO, count as u64);
-    io::write_all(STDOUT_FILENO, b"\n");
+const NUMBERS: [(usize, u64); 15] = [
+    (0, 0),
+    (1, 9),
+    (2, 10),
+    (3, 99),
+    (4, 100),
+    (5, 65_535),
+    (6, 4_294_967_295),
+    (0, 9_999_999_999_999_999_999),
+    (0, 10_000_000_000_000_000_000),
+    (2, u64::MAX),
+    (3, u64::MAX),
+    (21, 7),
+    (22, 7),
+    (21, 70),
+    (usize::MAX, 7),
+];
+
+const WORDS: [(usize, &str); 5] = [
+    (0, "(place"),
+    (16, "(place"),
+    (17, "(place"),
+    (22, ""),
+    (usize::MAX, ""),
+];
+
+fn show(rt: &impl Print, out: &[u8], count: usize) -> io::Result<()> {
+    io::writer(rt).write_all(out)?;
+    println!(rt; " {count}")
 }
 
-fn number(at: usize, n: u64) {
-    let mut out = [b'.'; 22];
-    let count = writing::put_number(&mut out, at, n);
-    print(&out, count);
-}
-
-fn word(at: usize, word: &[u8]) {
-    let mut out = [b'.'; 22];
-    let count = writing::put_word(&mut out, at, word);
-    print(&out, count);
-}
-
-fn numbers() {
-    number(0, 0);
-    number(1, 9);
-    number(2, 10);
-    number(3, 99);
-    number(4, 100);
-    number(5, 65535);
-    number(6, 4294967295);
-}
-
-fn long_numbers() {
-    number(0, 9999999999999999999);
-    number(0, 10000000000000000000);
-    number(2, 18446744073709551615);
-    number(3, 18446744073709551615);
-}
-
-fn ends() {
-    number(21, 7);
-    number(22, 7);
-    number(21, 70);
-    number(18446744073709551615, 7);
-}
-
-fn main() {
-    numbers();
-    long_numbers();
-    ends();
-    word(0, b"(place");
-    word(16, b"(place");
-    word(17, b"(place");
-    word(22, b"");
-    word(18446744073709551615, b"");
+fn main(rt: HostRuntime) -> io::Result<()> {
+    for (at, n) in NUMBERS {
+        let mut out = [b'.'; 22];
+        let count = writing::put_number(&mut out, at, n);
+        show(&rt, &out, count)?;
+    }
+    for (at, word) in WORDS {
+        let mut out = [b'.'; 22];
+        let count = writing::put_word(&mut out, at, word.as_bytes());
+        show(&rt, &out, count)?;
+    }
+    Ok(())
 }

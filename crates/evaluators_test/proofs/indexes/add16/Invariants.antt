@@ -1,9 +1,0 @@
--- `add16` is safe and ends: its loop counts.
-use Prim.Native.Nat.{◌-◌}
-use Rattle.evaluators_test.proofs.indexes.add16.Given as goal
-
-abbrev pub invariant-loop-i : goal.invariant-loop-i
-invariant-loop-i l = Unit {0}
-
-abbrev pub decreases-loop-i : goal.decreases-loop-i
-decreases-loop-i l = l.n - l.i

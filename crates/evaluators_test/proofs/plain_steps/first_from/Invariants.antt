@@ -1,9 +1,0 @@
--- `first_from` is safe and ends: its loop counts.
-use Prim.Native.Nat.{◌-◌}
-use Rattle.evaluators_test.proofs.plain_steps.first_from.Given as goal
-
-abbrev pub invariant-loop-i : goal.invariant-loop-i
-invariant-loop-i l = Unit {0}
-
-abbrev pub decreases-loop-i : goal.decreases-loop-i
-decreases-loop-i l = l.end - l.i
