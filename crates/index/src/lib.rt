@@ -6,5 +6,5 @@ mod list;
 mod postings;
 
 pub use forward::{Step, first_at_least, seek};
-pub use list::{IndexTables, clear, fill_from, number_of, start_at};
+pub use list::{IndexTables, clear, fill_from, list_at, list_of, number_of, start_at};
 pub use postings::{device_of, reach_by, reach_of};

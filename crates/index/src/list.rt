@@ -1,7 +1,7 @@
 // The list of a term, a part of the postings; where lists start; a table cleared behind them.
 ghost use Rattle.std.specs.Prelude.{◌≡◌, [], ◌++◌, ◌-◌, length, get_or, take, replicate, unwrap_or, ◌≤◌, IfSome};
 ghost use Rattle.std.proofs.Math.Seq.{slice};
-ghost use Rattle.index.specs.Index.{list};
+ghost use Rattle.index.specs.Index.{index, list};
 ghost use Rattle.index.specs.Tables.{index_of};
 ghost use Rattle.index.specs.Lookup.{Numbered, Looked};
 
@@ -18,20 +18,34 @@ impl<'a> IndexTables<'a> {
     pub fn list_of(self, term: u32) -> &'a [u32]
         ensures { Looked (index_of self.entry) term result.now }
     {
-        match number_of(self.terms, term) {
-            None => &[],
-            Some(number) => self.list_at(number),
-        }
+        list_of(self.terms, self.starts, self.postings, term)
     }
 
     // The k-th list, counted from 1: it ends where the next starts, or at the end of the postings.
     pub fn list_at(self, k: usize) -> &'a [u32]
         ensures { result.now ≡ list (index_of self.entry) k }
     {
-        let start = start_at(self.starts, k.saturating_sub(1), 0);
-        let end = start_at(self.starts, k, self.postings.len());
-        part(self.postings, start, end)
+        list_at(self.starts, self.postings, k)
     }
+}
+
+// The same of tables one by one, of which the postings alone have to live as long as the list.
+pub fn list_of<'a>(terms: &[u16], starts: &[u32], postings: &'a [u32], term: u32) -> &'a [u32]
+    ensures { Looked (index terms.now starts.now postings.now) term result.now }
+{
+    match number_of(terms, term) {
+        None => &postings[..0],
+        Some(number) => list_at(starts, postings, number),
+    }
+}
+
+// The k-th list, the same way.
+pub fn list_at<'a>(starts: &[u32], postings: &'a [u32], k: usize) -> &'a [u32]
+    ensures { result.now ≡ list (index [] starts.now postings.now) k }
+{
+    let start = start_at(starts, k.saturating_sub(1), 0);
+    let end = start_at(starts, k, postings.len());
+    part(postings, start, end)
 }
 
 // The number of `term` among the terms, from 1 on.

@@ -5,6 +5,7 @@ mod lookup;
 mod refusals;
 
 use index::IndexTables;
+pub use lookup::list_of;
 pub use refusals::check;
 
 // The tables of two indexes that a caller lends.

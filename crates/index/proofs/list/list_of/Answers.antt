@@ -1,7 +1,7 @@
--- `index::list::IndexTables::list_of` meets its contract: by the number of the term.
+-- `index::list::list_of` meets its contract: by the number of the term.
 use Rattle.std.proofs.Common.{arith}
 use Rattle.index.proofs.Lookup.{looked_some}
-use Rattle.index.proofs.list.IndexTables.list_of.Goals as goal
+use Rattle.index.proofs.list.list_of.Goals as goal
 
 pub returns-in-Some : goal.returns-in-Some
 returns-in-Some c =
