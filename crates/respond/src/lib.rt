@@ -74,9 +74,9 @@ fn respond_search(plant: DeviceTables, index: IndexTables, query: Query, out: &m
 {
     let mut listing = [0u16; 1024];
     let none = IndexTables {
-        terms: &[],
-        starts: &[],
-        postings: &[],
+        terms: &index.terms[..0],
+        starts: &index.starts[..0],
+        postings: &index.postings[..0],
     };
     let indexes = TwoIndexes {
         first: index,
