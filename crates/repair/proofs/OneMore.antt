@@ -18,8 +18,7 @@ use Rattle.laws.proofs.Joined.{some, some_append, some_one, entry_left, entry_en
 use Rattle.laws.specs.inner.Entries.{IsEntry}
 use Rattle.index.specs.Postings.{device, shared, reach, shadowed, redundant}
 use Rattle.repair.specs.Kept.{choice, keeps, drops, kept, dropped}
-use Rattle.plant.specs.inner.Forest.{Forest}
-use Rattle.repair.specs.inner.Lists.{Fit, furthest}
+use Rattle.repair.specs.inner.Lists.{Held, Fit, furthest}
 use Rattle.repair.specs.inner.Compaction.{stays, goes}
 use Rattle.repair.proofs.Furthest.{furthest_covers, furthest_at}
 
@@ -125,7 +124,7 @@ private_is x d e s = let z = simp tests at s in omega arith
 
 -- ---- which postings stay
 
-module _ (last : List ℕ) (H : Forest last) (l : List ℕ) (q : ℕ) (F : Fit (length last) (more l q)) where
+module _ (last : List ℕ) (H : Held last) (l : List ℕ) (q : ℕ) (F : Fit (length last) (more l q)) where
   old : (k : ℕ) → 1 ≤ k → k ≤ length l → entry (more l q) k ≡ entry l k
   old k a b = entry_left l (q ∷ []) k a b
 
@@ -143,8 +142,7 @@ module _ (last : List ℕ) (H : Forest last) (l : List ℕ) (q : ℕ) (F : Fit (
   -- a posting reaches its device
   own : (k : ℕ) → 1 ≤ k → k ≤ length l → device (entry l k) ≤ reach last (entry l k)
   own k a b =
-      let p = in_plant k a b in
-      let o = H.own (device (entry l k)) p.first p.last in
+      let o = H.held (device (entry l k)) (in_plant k a b) in
       either (shared (entry l k)) (λ s. rw s o) (λ s. rw s (omega arith))
 
   found : (k : ℕ) → 1 ≤ k → k ≤ length l → (d : ℕ) → device (entry l k) ≡ d → some (at d) l ≡ true

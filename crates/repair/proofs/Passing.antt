@@ -17,7 +17,7 @@ use Rattle.index.specs.Postings.{device, reach, outside}
 use Rattle.plant.specs.inner.Forest.{Forest}
 use Rattle.repair.specs.Kept.{kept, dropped}
 use Rattle.repair.specs.Refusals.{falls}
-use Rattle.repair.specs.inner.Lists.{astray, Fit, furthest}
+use Rattle.repair.specs.inner.Lists.{Held, astray, Fit, furthest}
 use Rattle.repair.specs.inner.Compaction.{stays, goes}
 use Rattle.repair.proofs.Furthest.{furthest_more}
 use Rattle.repair.proofs.OneMore.{fresh, covered}
@@ -76,6 +76,9 @@ unfolding furthest
 passed_start last l = record { within = omega arith; reached_is = refl; some = λ u. absurd (omega arith) }
 
 module _ {last l : List ℕ} {k reached : ℕ} (H : Forest last) (h : Passed last l k reached) (u : k < length l) (F : Fit (length last) (take (k + 1) l)) where
+  held_all : Held last
+  held_all = record { held = λ d e. H.own d e.first e.last }
+
   abbrev q : ℕ
   q = get_or l k 0
 
@@ -87,13 +90,13 @@ module _ {last l : List ℕ} {k reached : ℕ} (H : Forest last) (h : Passed las
 
   -- none before it reaches its device
   pub passed_fresh : reached < device q → (kept last (take (k + 1) l) ≡ kept last (take k l) ++ (q ∷ [])) × (dropped last (take (k + 1) l) ≡ dropped last (take k l))
-  passed_fresh v = rw next (fresh last H (take k l) q F' (rw (← h.reached_is) v))
+  passed_fresh v = rw next (fresh last held_all (take k l) q F' (rw (← h.reached_is) v))
 
   -- one does
   pub passed_covered : 1 ≤ device q → device q ≤ reached → let ks = kept last (take k l) in
       (kept last (take (k + 1) l) ≡ take (length ks - 1) ks ++ (stays (entry ks (length ks)) q ∷ []))
       × (dropped last (take (k + 1) l) ≡ dropped last (take k l) ++ (goes (entry ks (length ks)) q ∷ []))
-  passed_covered o v = rw next (covered last H (take k l) q F' (rw (← h.reached_is) v) (h.some (omega arith)))
+  passed_covered o v = rw next (covered last held_all (take k l) q F' (rw (← h.reached_is) v) (h.some (omega arith)))
 
   pub passed_device : 1 ≤ device q
   passed_device =

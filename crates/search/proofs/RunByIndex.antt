@@ -12,10 +12,10 @@ use Rattle.laws.specs.Limits.{most_devices}
 use Rattle.index.specs.inner.Lists.{SoundList}
 use Rattle.index.proofs.Accepted.{sound_few}
 use Rattle.steps.specs.Matching.{matching}
-use Rattle.steps.specs.Steps.{required, forbidden, Cursor, placed, End, ends, counted, listing, run, total}
+use Rattle.steps.specs.Steps.{required, forbidden, Cursor, placed, End, ends, counted, listing, round, run, total}
 use Rattle.steps.proofs.Counts.{round_tallies, run_by, run_over}
-use Rattle.steps.proofs.Stretch.{led, listing_led, counted_none, run_still}
-use Rattle.search.specs.inner.Cursors.{most_cursors, most_passed, Tables, Valid, Lists, cursors, begin, Turns, Writes, RunGives}
+use Rattle.steps.proofs.Stretch.{Accept, led, listing_led, counted_none, run_still}
+use Rattle.search.specs.inner.Cursors.{most_cursors, most_passed, Tables, Valid, Lists, cursors, begin, said, Turns, Writes, RunGives}
 use Rattle.search.specs.declared.cursor.Counts.{Counts}
 use Rattle.search.specs.declared.run.Round.{Round}
 use Rattle.search.specs.declared.run.Round.TheVariants.{Accepts, Again}
@@ -30,6 +30,63 @@ goes last root ok ls k budget at c j p = run last root (length last + 1) ok j (b
 abbrev made : Counts → Counts → End → End
 made c c' = counted (counts (c'.moves - c.moves) (c'.passed - c.passed))
 
+-- how many rounds of the definition a round of the code at position p is, what it lists, and where it leaves off
+abbrev pub rounds : Round → ℕ → ℕ
+rounds (Accepts to) p = to + 1 - p
+rounds (Again next) p = 1
+
+abbrev pub stretch : Round → (ℕ → Bool) → ℕ → List ℕ
+stretch (Accepts to) ok p = matching ok (to + 1 - p) p
+stretch (Again next) ok p = []
+
+abbrev pub onward : Round → ℕ
+onward (Accepts to) = to + 1
+onward (Again next) = next
+
+-- where all cursors accept p, they do at each position up to the round's last, which is below the end
+abbrev pub Stays : List ℕ → ℕ → List Cursor → ℕ → Round → Type 0
+Stays last end cs p (Accepts to) = (p ≤ to) × (to < end) × ((q : ℕ) → p ≤ q → q ≤ to → Accept last end q cs)
+Stays last end cs p (Again next) = p < next
+
+-- a round of the code at position p, in a run up to any end, is the definition's
+pub record Turned (last root : List ℕ) (ls : List (List ℕ)) (k end p budget : ℕ) (at at' : List ℕ) (c c' : Counts) (r : Round) : Type 0 where
+  pub more : c.moves ≤ c'.moves
+  pub same : round last root end p (budget - c.moves) (cursors k at 0 ls)
+      ≡ record { cursors = cursors k at' 0 ls; counts = record { moves = c'.moves - c.moves; passed = c'.passed - c.passed }; outcome = said (Some r) }
+  pub stays : Stays last end (cursors k at' 0 ls) p r
+
+module _ {last root : List ℕ} {ls : List (List ℕ)} {k end p budget : ℕ} {at at' : List ℕ} {c c' : Counts} (ok : ℕ → Bool) (h : p < end) where
+  left : {r : Round} → Turned last root ls k end p budget at at' c c' r → budget - c.moves - (c'.moves - c.moves) ≡ budget - c'.moves
+  left t = omega (arith, t.more)
+
+  again_goes : {next : ℕ} → Turned last root ls k end p budget at at' c c' (Again next) → (j : ℕ)
+      → run last root end ok (suc j) (budget - c.moves) p (cursors k at 0 ls) ≡ made c c' (run last root end ok j (budget - c'.moves) next (cursors k at' 0 ls))
+  again_goes t j = run_by last root end ok j (budget - c.moves) p (cursors k at 0 ls) _ h t.same ∙ rw (left t)
+
+  accepted_goes : {to : ℕ} → Turned last root ls k end p budget at at' c c' (Accepts to) → (j : ℕ)
+      → run last root end ok (suc j) (budget - c.moves) p (cursors k at 0 ls) ≡ made c c' (listing (ok p) p (run last root end ok j (budget - c'.moves) (p + 1) (cursors k at' 0 ls)))
+  accepted_goes t j = run_by last root end ok j (budget - c.moves) p (cursors k at 0 ls) _ h t.same ∙ rw (left t)
+
+  stretch_goes : {to : ℕ} → Turned last root ls k end p budget at at' c c' (Accepts to) → (j : ℕ)
+      → run last root end ok (to + 1 - p + j) (budget - c.moves) p (cursors k at 0 ls)
+      ≡ made c c' (led (matching ok (to + 1 - p) p) (run last root end ok j (budget - c'.moves) (to + 1) (cursors k at' 0 ls)))
+  unfolding matching
+  stretch_goes {to} t j =
+      let f = t.stays.0 in
+      let i = t.stays.1 in
+      let u : to + 1 - p + j ≡ suc (to - p + j) = omega arith in
+      let v : to + 1 - p ≡ suc (to - p) = omega arith in
+      let w : p + 1 + (to - p) ≡ to + 1 = omega arith in
+      let S = run_still last root end ok (cursors k at' 0 ls) (budget - c'.moves) (to - p) j (p + 1) (omega arith) (λ q x y. t.stays.2 q (omega arith) (omega arith)) in
+      rw (u, v) (accepted_goes t (to - p + j) ∙ ap (λ x. made c c' (listing (ok p) p x)) (rw w at S) ∙ ap (made c c') (listing_led (ok p) p _ _))
+
+  -- all positions of a round at once
+  pub turn_goes : (r : Round) → Turned last root ls k end p budget at at' c c' r → (j : ℕ)
+      → run last root end ok (rounds r p + j) (budget - c.moves) p (cursors k at 0 ls)
+      ≡ made c c' (led (stretch r ok p) (run last root end ok j (budget - c'.moves) (onward r) (cursors k at' 0 ls)))
+  turn_goes (Accepts to) t j = stretch_goes t j
+  turn_goes (Again next) t j = let u : 1 + j ≡ suc j = omega arith in rw u (again_goes t j)
+
 module _ {last root : List ℕ} {ls : List (List ℕ)} {k p budget : ℕ} {at at' : List ℕ} {c c' : Counts} (ok : ℕ → Bool) (h : p ≤ length last) where
   -- each posting that the cursors lose is a move or is passed over
   turn_sum : {r : Option Round} → Turns last root ls k p budget at at' c c' r
@@ -39,29 +96,14 @@ module _ {last root : List ℕ} {ls : List (List ℕ)} {k p budget : ℕ} {at at
   turn_stops : Turns last root ls k p budget at at' c c' None → (j : ℕ) → goes last root ok ls k budget at c (suc j) p ≡ made c c' (ends p true (cursors k at' 0 ls))
   turn_stops t j = run_by last root (length last + 1) ok j (budget - c.moves) p (cursors k at 0 ls) _ (omega arith) t.same
 
-  left : {r : Option Round} → Turns last root ls k p budget at at' c c' r → budget - c.moves - (c'.moves - c.moves) ≡ budget - c'.moves
-  left t = omega (arith, t.more)
-
   turn_again : {next : ℕ} → Turns last root ls k p budget at at' c c' (Some (Again next)) → (j : ℕ)
       → goes last root ok ls k budget at c (suc j) p ≡ made c c' (goes last root ok ls k budget at' c' j next)
-  turn_again t j = run_by last root (length last + 1) ok j (budget - c.moves) p (cursors k at 0 ls) _ (omega arith) t.same ∙ rw (left t)
+  turn_again t j = again_goes ok (omega arith) (record { more = t.more; same = t.same; stays = t.goes.0 }) j
 
-  turn_accepts : {to : ℕ} → Turns last root ls k p budget at at' c c' (Some (Accepts to)) → (j : ℕ)
-      → goes last root ok ls k budget at c (suc j) p ≡ made c c' (listing (ok p) p (goes last root ok ls k budget at' c' j (p + 1)))
-  turn_accepts t j = run_by last root (length last + 1) ok j (budget - c.moves) p (cursors k at 0 ls) _ (omega arith) t.same ∙ rw (left t)
-
-  -- all positions of the stretch at once
   turn_lists : {to : ℕ} → Turns last root ls k p budget at at' c c' (Some (Accepts to)) → (j : ℕ)
       → goes last root ok ls k budget at c (to + 1 - p + j) p ≡ made c c' (led (matching ok (to + 1 - p) p) (goes last root ok ls k budget at' c' j (to + 1)))
-  unfolding matching
   turn_lists {to} t j =
-      let f = t.goes.0 in
-      let i = t.goes.1 in
-      let u : to + 1 - p + j ≡ suc (to - p + j) = omega arith in
-      let v : to + 1 - p ≡ suc (to - p) = omega arith in
-      let w : p + 1 + (to - p) ≡ to + 1 = omega arith in
-      let S = run_still last root (length last + 1) ok (cursors k at' 0 ls) (budget - c'.moves) (to - p) j (p + 1) (omega arith) (λ q x y. t.goes.2 q (omega arith) (omega arith)) in
-      rw (u, v) (turn_accepts t (to - p + j) ∙ ap (λ x. made c c' (listing (ok p) p x)) (rw w at S) ∙ ap (made c c') (listing_led (ok p) p _ _))
+      turn_goes ok (omega arith) (Accepts to) (record { more = t.more; same = t.same; stays = (t.goes.0, (let i = t.goes.1 in omega arith), t.goes.2) }) j
 
 -- ---- all positions
 

@@ -116,6 +116,13 @@ module _ {l : List ℕ} {at n count : ℕ} (d : DigitRoom l at n count) where
       let s : padded k n ≡ numeral n = rw z (numeral_padded n) in
       writes_all (few_room refl) (p.stored ∙ rw s) (p.counted ∙ z)
 
+  -- and so a number of any length, once none of its digits is left
+  pub number_whole : {l' : List ℕ} {rest i : ℕ} → Lasts l at count n l' rest i → i ≤ 0 → Writes l at (numeral n) l' count
+  number_whole {i} p h =
+      let z : i ≡ 0 = omega arith in
+      let y : at + 0 ≡ at = omega arith in
+      last_all d.all (record { same = p.same; stored = p.stored ∙ rw (z, y); counted = refl })
+
 -- ---- several words and numbers, one after another
 
 pub puts : {l w l' : List ℕ} {at count : ℕ} → Writes l at w l' count → Puts l at w l' (at + count)

@@ -2,6 +2,7 @@
 use Rattle.std.specs.Prelude.{ℕ, ◌≤◌, max, ◌≡◌, Bool, false, ◌||◌, List, [], ◌∷◌, length}
 use Rattle.laws.specs.Search.{any}
 use Rattle.laws.specs.Tables.{entry}
+use Rattle.laws.specs.inner.Entries.{IsEntry}
 use Rattle.index.specs.Postings.{device, reach, outside}
 use Rattle.index.specs.Index.{Index, count, list}
 use Rattle.index.specs.inner.Outlined.{Outlined}
@@ -19,6 +20,10 @@ pub record Fit (n : ℕ) (l : List ℕ) : Type 0 where
   pub first : (k : ℕ) → 1 ≤ k → k ≤ length l → 1 ≤ device (entry l k)
   pub last : (k : ℕ) → 1 ≤ k → k ≤ length l → device (entry l k) ≤ n
   pub sorted : (i k : ℕ) → 1 ≤ i → i ≤ k → k ≤ length l → device (entry l i) ≤ device (entry l k)
+
+-- each branch holds its device, as in device tables that are accepted
+pub record Held (last : List ℕ) : Type 0 where
+  pub held : (d : ℕ) → IsEntry last d → d ≤ entry last d
 
 -- an index of which no row before 44 says anything
 pub record Repairable (last : List ℕ) (I : Index) : Type 0 where
