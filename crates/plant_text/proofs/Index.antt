@@ -14,6 +14,7 @@ use Rattle.laws.proofs.Rows.{pick_none}
 use Rattle.laws.proofs.Tests.{flags}
 use Rattle.laws.proofs.Cases.{either}
 use Rattle.plant.specs.Plant as plants
+use Rattle.index.specs.Index as indexes
 use Rattle.index.specs.Index.{index}
 use Rattle.text.specs.inner.Finding.{found_at}
 use Rattle.text.specs.Reading.{Read}
@@ -139,3 +140,9 @@ module _ {r : Room} {t last T S L : List ℕ} {count n : ℕ} {p : Place} {A : p
           fits = record { terms = op.terms; starts = op.starts; postings = d.start.fits };
           terms = op.holds;
         }
+
+-- each table is as long as it was
+pub record IndexSizes (X₀ X : indexes.Index) : Type 0 where
+  pub terms : length X.terms ≡ length X₀.terms
+  pub starts : length X.starts ≡ length X₀.starts
+  pub postings : length X.postings ≡ length X₀.postings

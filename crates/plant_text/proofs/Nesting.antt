@@ -192,3 +192,9 @@ module _ {r : Room} {T : plants.Plant} (t : List ℕ) (p : Place) (depth : ℕ) 
       leaf_ended =
           let l : p.line + 1 + 1 ≡ p.line + 2 = omega arith in
           rw (← l) (device_ended leaf_list refl refl refl)
+
+-- each table is as long as it was
+pub record PlantSizes (T₀ T : plants.Plant) : Type 0 where
+  pub last : length T.last ≡ length T₀.last
+  pub root : length T.root ≡ length T₀.root
+  pub level : length T.level ≡ length T₀.level

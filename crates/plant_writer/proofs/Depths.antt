@@ -58,6 +58,12 @@ pub shallow_start : {last : List ℕ} {a e depth : ℕ} → Nested last a e → 
 shallow_start n k = record { from = omega arith; none = λ d p q. absurd (omega arith); nested = n; known = k }
 
 module _ {last : List ℕ} {a e depth i : ℕ} (s : Shallow last a e depth i) where
+  pub shallow_end : e ≤ i → Deep last a e false
+  shallow_end h = record {
+    found = λ x. absurd (true≢false (sym x));
+    none = λ _ d p q. s.none d p (omega arith);
+  }
+
   module _ (l : i < e) where
     pub first_nested : {end : ℕ} → end ≡ get_or last i 0 → Nested last (i + 1) end
     first_nested z = rw z (nested_first s.nested l)
@@ -69,6 +75,16 @@ module _ {last : List ℕ} {a e depth i : ℕ} (s : Shallow last a e depth i) wh
     end_bounds z = rw z (first_end s.nested l)
 
     module _ {end : ℕ} (z : end ≡ get_or last i 0) {r : Bool} (D : Deep last (i + 1) end r) where
+      -- a device inside its branch is
+      pub deep_inside : r ≡ true → Deep last a e true
+      deep_inside y =
+          let x = D.found y in
+          let b = end_bounds z in
+          record {
+            found = λ _. (x.0, omega (arith, s.from, x.1), omega (arith, x.2), x.3);
+            none = λ w. absurd (true≢false w);
+          }
+
       pub shallow_turn : depth < 32 → r ≡ false → Shallow last a e depth end
       shallow_turn m y =
           let b = end_bounds z in

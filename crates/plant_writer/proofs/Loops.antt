@@ -6,7 +6,7 @@ use native.Mathlib.Omega.{arith}
 use native.Mathlib.Numerals.{add-one}
 use borrow.Author.Tests.{eq-eqb, ne_eqb}
 use lib.ListN.{length, take, get_or}
-use lib.Seq.{take-suc}
+use lib.Seq.{take-suc, take_all}
 use Rattle.plant.specs.Plant.{Plant, size}
 use Rattle.index.specs.Postings.{device}
 use Rattle.index.specs.Index.{Index, index, count, list}
@@ -20,6 +20,7 @@ use Rattle.written_text.specs.Forms.{posting_form, term_forms, terms_forms}
 use Rattle.written_text.specs.Text.{bytes_of, text_of}
 use Rattle.written_text.specs.inner.Nested.{Nested, Tiered, stretch}
 use Rattle.written_text.proofs.Stretches.{first_end, nested_first, nested_rest}
+use Rattle.plant_writer.specs.inner.PutUnless.{PutUnless}
 use Rattle.plant_writer.proofs.Depths.{tiered_first, tiered_rest}
 use Rattle.plant_writer.proofs.Bytes.{bytes_append, bytes_none, word_dev, word_mark, word_own, word_all, word_plant, word_close, device_bytes, term_bytes, own_bytes, all_bytes, close_bytes, plant_bytes, stretch_end, stretch_bytes, term_parts, text_parts}
 
@@ -113,6 +114,9 @@ module _ {l out : List ℕ} {at : ℕ} where
       put = rw (add-one i, take-suc l i 0 h, map-append posting_form (take i l) (get_or l i 0 ∷ []), bytes_append (map posting_form (take i l)) (posting_form (get_or l i 0) ∷ [])) (s.put then p);
     }
 
+    pub postings_put : length l ≤ i → Puts out at (bytes_of (map posting_form l)) o₁ n₁
+    postings_put h = rw (take_all i l h) at s.put
+
 -- ---- terms: the first k are written
 
 pub term_whole : (t : ℕ) (l : List ℕ) {out o₁ o₂ o₃ : List ℕ} {at n₁ n₂ n₃ : ℕ} → Puts out at (bytes_of (with_number term_line t ∷ [])) o₁ n₁ →
@@ -138,6 +142,9 @@ module _ {terms starts postings out : List ℕ} {at : ℕ} where
         let more : terms_forms I (k + 1) ≡ terms_forms I k ++ term_forms (get_or terms k 0) l = rw (e, add-one k, z) in
         record { within = omega arith; put = rw (more, bytes_append (terms_forms I k) (term_forms (get_or terms k 0) l)) (s.put then p) }
 
+    pub terms_put : length terms ≤ k → Puts out at (bytes_of (terms_forms (index terms starts postings) (length terms))) o₁ n₁
+    terms_put h = let z : k ≡ length terms = omega (arith, s.within) in rw z at s.put
+
 -- ---- the whole: its four parts stand one after another
 
 pub plant_put : (P : Plant) (I : Index) {out o₁ o₂ o₃ o₄ : List ℕ} {n₁ n₂ n₃ n₄ : ℕ} → Writes out 0 word_plant o₁ n₁ →
@@ -146,3 +153,11 @@ pub plant_put : (P : Plant) (I : Index) {out o₁ o₂ o₃ o₄ : List ℕ} {n�
 plant_put P I {n₁} p q t u =
     let z : 0 + n₁ ≡ n₁ = omega arith in
     rw (text_parts P I, plant_bytes) ((rw z at (puts p)) then q then t then u)
+
+-- it is refused, or put
+module _ {refused : ℕ} {out bytes : List ℕ} where
+  pub put_refused : (refused ≡ 0 → ⊥) → PutUnless refused out bytes out 0
+  put_refused h = record { put = λ e. absurd (h e); kept = λ _. refl }
+
+  pub put_taken : {out' : List ℕ} {n : ℕ} → refused ≡ 0 → Puts out 0 bytes out' n → PutUnless refused out bytes out' n
+  put_taken e p = record { put = λ _. p; kept = λ h. absurd (h e) }

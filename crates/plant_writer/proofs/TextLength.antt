@@ -1,5 +1,5 @@
 -- How long a text is, and the loops that add it up.
-use Prim.Native.Nat.{ℕ, zero, suc, ◌+◌, ◌-◌, ◌≤◌}
+use Prim.Native.Nat.{ℕ, zero, suc, ◌+◌, ◌-◌, ◌*◌, ◌≤◌}
 use mathlib.Core.Path.{◌≡◌, refl, sym, ap, ◌∙◌}
 use mathlib.Core.Bool.{Bool, true, false, cond}
 use mathlib.Core.List.{List, [], ◌∷◌, ◌++◌, map}
@@ -134,3 +134,16 @@ module _ (P : Plant) (I : Index) (h : tables_refusal P I ≡ 0) where
       ap length (text_parts P I)
       ∙ parts_length (bytes_of (plain plant_line ∷ [])) (bytes_of (stretch P.last P.level 0 (size P))) (bytes_of (terms_forms I (count I))) (bytes_of (plain close_line ∷ []))
       ∙ omega (arith, rw x at a, rw (y, z) at b)
+
+-- ---- the loops
+
+-- the first i entries have been added up, each with a number of 32 bits
+pub record Summed (extra : ℕ) (key : ℕ → ℕ) (l : List ℕ) (n i : ℕ) : Type 0 where
+  pub within : i ≤ length l
+  pub known : n ≡ lines_length extra key (take i l)
+  pub few : n ≤ (extra + 10) * i
+
+module _ {extra : ℕ} {key : ℕ → ℕ} {l : List ℕ} where
+  module _ {n i : ℕ} (s : Summed extra key l n i) where
+    pub summed_end : length l ≤ i → (n ≡ lines_length extra key l) × (n ≤ (extra + 10) * length l)
+    summed_end h = let e : i ≡ length l = omega (arith, s.within) in (s.known ∙ rw (take_all i l h), rw e at s.few)

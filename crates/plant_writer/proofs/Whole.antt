@@ -10,7 +10,7 @@ use Rattle.laws.specs.Rows.{pick}
 use Rattle.laws.proofs.Tests.{tests}
 use Rattle.std.specs.Prelude.{Result, Ok, Err}
 use Rattle.refusal.specs.declared.Refusal.{Refusal}
-use Rattle.refusal.specs.Numbers.{number}
+use Rattle.refusal.specs.Numbers.{number, numbered, given}
 use Rattle.refusal.proofs.Numbers.{number_not_zero, gives, first_refuses}
 use Rattle.laws.proofs.Rows.{otherwise_next}
 use Rattle.laws.proofs.Search.{any_found, any_none}
@@ -55,6 +55,13 @@ checked P I h =
     }
 
 -- ---- the answers
+
+pub told_refused : (refused count : ℕ) → (refused ≡ 0 → ⊥) → Err (numbered refused) ≡ given refused count
+told_refused zero count h = absurd (h refl)
+told_refused (suc x) count h = refl
+
+pub told_made : (refused count : ℕ) → refused ≡ 0 → Ok count ≡ given refused count
+told_made refused count e = rw e
 
 -- what the contract says of an outcome r and the buffer out' that is left
 pub record Leaves (P : Plant) (I : Index) (out : List ℕ) (r : Result ℕ Refusal) (out' : List ℕ) : Type 0 where
@@ -114,3 +121,8 @@ module _ (P : Plant) (I : Index) (out : List ℕ) where
             let y : 0 + length (text_of P I) ≡ length (text_of P I) = omega arith in
             let m : count ≡ length (text_of P I) = p.moved room ∙ y in
             record { outcome = rw (w, m); text = rw w (p.stored room ∙ rw y); number = sym w; long = rw (w, m); trips = round_trips P I (length out) coded }
+
+-- the clauses of the contract, one by one
+pub promised : {P : Plant} {I : Index} {out out' : List ℕ} {r : Result ℕ Refusal} {T : Type 0} → Leaves P I out r out' → T →
+    (r ≡ outcome_of P I (length out)) × ((out' ≡ text_after P I out) × ((written_number r ≡ write_refusal P I (length out)) × ((written_length r ≡ length_of P I (length out)) × T)))
+promised l t = (l.outcome, (l.text, (l.number, (l.long, t))))

@@ -1,0 +1,2 @@
+-- Laws of what is handed back.
+mod Handed
