@@ -6,12 +6,12 @@ use std::alloc::{AllocError, Global};
 use std::io;
 use two_indexes::TwoIndexes;
 
-// Reads both texts, and lists the devices that match.
+// Reads both texts, and lists the devices that match. None where a text is refused.
 pub fn listing_of_texts(
     alloc: Global,
     plant: &[u8],
     query: &[u8],
-) -> Result<Vec<usize>, AllocError> {
+) -> Result<Option<Vec<usize>>, AllocError> {
     let mut last = [0; 16];
     let mut root = [0; 16];
     let mut level = [0; 16];
@@ -28,7 +28,7 @@ pub fn listing_of_texts(
         &mut postings,
     );
     let (Ok(counts), Ok(query)) = (made, query_text::read(query)) else {
-        return Ok(Vec::new(alloc));
+        return Ok(None);
     };
     let plant = DeviceTables {
         last: front(&last, counts.devices),
@@ -45,7 +45,8 @@ pub fn listing_of_texts(
         starts: &[],
         postings: &[],
     };
-    listing(alloc, plant, TwoIndexes { first, second }, query)
+    let listed = listing(alloc, plant, TwoIndexes { first, second }, query)?;
+    Ok(Some(listed))
 }
 
 // The first n entries of a table, or all of it.

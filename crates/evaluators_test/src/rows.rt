@@ -46,8 +46,8 @@ const WITHOUT_LEVEL_LINE: [Row; 3] = [
     ("the empty ask", P, "(ask\n)\n"),
 ];
 
-// The sentences after the rows, two of them over plants of their own.
-const SENTENCES: [Row; 5] = [
+// The sentences after the rows, of which the first four are refusals, and two are over plants of their own.
+const REFUSED_SENTENCES: [Row; 4] = [
     ("from 8 is 13", P, "(ask\n(from 8)\n)\n"),
     ("high 255 is 12", P, "(ask\n(level 1 255)\n)\n"),
     ("low 0 is 12", P, "(ask\n(level 0 254)\n)\n"),
@@ -56,12 +56,13 @@ const SENTENCES: [Row; 5] = [
         "(plant\n(dev 120\n(dev 118\n(dev 255\n)\n)\n)\n(mark 7\n(all 2)\n(own 3)\n)\n)\n",
         "(ask\n(need 7)\n)\n",
     ),
-    (
-        "own 1 and all 2 is not",
-        "(plant\n(dev 120\n(dev 118\n(dev 255\n)\n)\n)\n(mark 7\n(own 1)\n(all 2)\n)\n)\n",
-        "(ask\n(need 7)\n(level any)\n)\n",
-    ),
 ];
+
+const LAST_SENTENCE: [Row; 1] = [(
+    "own 1 and all 2 is not",
+    "(plant\n(dev 120\n(dev 118\n(dev 255\n)\n)\n)\n(mark 7\n(own 1)\n(all 2)\n)\n)\n",
+    "(ask\n(need 7)\n(level any)\n)\n",
+)];
 
 // Moves that pass over postings, over a plant of two trees. The cursor of mark 8 goes from 1 over 2 to 5, the first in the tree of 4; that of
 // mark 9 from 4 to the next posting, 7; that of mark 8 from 5 over 6, in the branch of 5, to 7.
@@ -111,7 +112,7 @@ const BELOW: &str =
 const FROM: &str =
     "(plant\n(dev 120\n(dev 118\n(dev 255\n)\n)\n(dev 121\n(dev 90\n)\n(dev 119\n)\n)\n)\n(mark 7\n(all 2)\n(own 5)\n)\n(mark 32768\n(all 4)\n)\n)\n";
 
-const STORES: [Row; 7] = [
+const STORES: [Row; 4] = [
     (
         "mark 40000 is on no device",
         P,
@@ -132,6 +133,9 @@ const STORES: [Row; 7] = [
         BELOW,
         "(ask\n(need 7)\n(not 32767)\n(level any)\n)\n",
     ),
+];
+
+const MISFILED: [Row; 3] = [
     ("b with 32768 for 9 is 15", FROM, "(ask\n(need 32768)\n)\n"),
     (
         "so is an ask that does not name it",
@@ -141,35 +145,55 @@ const STORES: [Row; 7] = [
     ("and one that would be 11", FROM, "(ask\n(need 0)\n)\n"),
 ];
 
-// Prints a query text and its answer over a plant text, and unless that is a refusal what the slow evaluator lists. Whether the two agree.
-fn print_row<R: Print + AllocGlobal>(rt: &R, (label, plant, query): Row) -> io::Result<bool> {
+// What a row is to give: the listing of the slow evaluator, or a refusal.
+#[derive(Clone, Copy, PartialEq, Eq)]
+enum Due {
+    Listing,
+    Refusal,
+}
+
+// Prints a query text and its answer over a plant text, and unless a refusal is due what the slow evaluator lists. Whether the answer is what is
+// due.
+fn print_row<R: Print + AllocGlobal>(
+    rt: &R,
+    (label, plant, query): Row,
+    due: Due,
+) -> io::Result<bool> {
     let mut out = [0; 16384];
     let n = respond(plant.as_bytes(), query.as_bytes(), &mut out);
     let answer = &out[..n];
     print!(rt; "{label}\n{query}")?;
     rt.write_all(answer)?;
-    if answer.starts_with(b"(refused") {
+    if due == Due::Refusal {
         println!(rt; "")?;
-        return Ok(true);
+        return Ok(answer.starts_with(b"(refused"));
     }
     let listed = beside::listing_of_texts(rt.alloc(), plant.as_bytes(), query.as_bytes())?;
+    let Some(listed) = listed else {
+        println!(rt; "")?;
+        return Ok(false);
+    };
     beside::print(rt, &listed)?;
     Ok(beside::agrees(rt.alloc(), answer, &listed)?)
 }
 
 pub fn print_rows<R: Print + AllocGlobal>(rt: &R) -> io::Result<()> {
     let mut differences: u32 = 0;
-    let groups: [&[Row]; 6] = [
-        &ROWS,
-        &WITHOUT_LEVEL_LINE,
-        &SENTENCES,
-        &JUMPS,
-        &LEVELS,
-        &STORES,
+    let groups: [(&[Row], Due); 8] = [
+        (&ROWS, Due::Listing),
+        (&WITHOUT_LEVEL_LINE, Due::Listing),
+        (&REFUSED_SENTENCES, Due::Refusal),
+        (&LAST_SENTENCE, Due::Listing),
+        (&JUMPS, Due::Listing),
+        (&LEVELS, Due::Listing),
+        (&STORES, Due::Listing),
+        (&MISFILED, Due::Refusal),
     ];
-    for row in groups.into_iter().flatten() {
-        if !print_row(rt, *row)? {
-            differences = differences.saturating_add(1);
+    for (rows, due) in groups {
+        for row in rows {
+            if !print_row(rt, *row, due)? {
+                differences = differences.saturating_add(1);
+            }
         }
     }
     println!(rt; "differences {differences}")
