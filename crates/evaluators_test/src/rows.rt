@@ -46,7 +46,7 @@ const WITHOUT_LEVEL_LINE: [Row; 3] = [
     ("the empty ask", P, "(ask\n)\n"),
 ];
 
-// The sentences after the rows, of which the first four are refusals, and two are over plants of their own.
+// The sentences after the rows that are refusals, the last over a plant of its own.
 const REFUSED_SENTENCES: [Row; 4] = [
     ("from 8 is 13", P, "(ask\n(from 8)\n)\n"),
     ("high 255 is 12", P, "(ask\n(level 1 255)\n)\n"),
@@ -58,6 +58,7 @@ const REFUSED_SENTENCES: [Row; 4] = [
     ),
 ];
 
+// The sentence after them, over a plant of its own.
 const LAST_SENTENCE: [Row; 1] = [(
     "own 1 and all 2 is not",
     "(plant\n(dev 120\n(dev 118\n(dev 255\n)\n)\n)\n(mark 7\n(own 1)\n(all 2)\n)\n)\n",
@@ -135,6 +136,7 @@ const STORES: [Row; 4] = [
     ),
 ];
 
+// Those with 32,768 are refused by 15, whatever the ask.
 const MISFILED: [Row; 3] = [
     ("b with 32768 for 9 is 15", FROM, "(ask\n(need 32768)\n)\n"),
     (

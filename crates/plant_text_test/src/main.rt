@@ -189,8 +189,8 @@ fn no_places(rt: &HostRuntime) -> io::Result<()> {
     Ok(())
 }
 
-// 28 and 29: marks or devices that do not rise, and redundant postings; then texts that are taken.
-fn orders(rt: &HostRuntime) -> io::Result<()> {
+// 28: marks or devices that do not rise.
+fn falls(rt: &HostRuntime) -> io::Result<()> {
     outcome(rt, "a mark again", b"(plant\n(mark 7\n)\n(mark 7\n)\n)\n")?;
     outcome(
         rt,
@@ -212,6 +212,11 @@ fn orders(rt: &HostRuntime) -> io::Result<()> {
         "a device that falls in a branch",
         b"(plant\n(dev 1\n(dev 2\n(dev 3\n)\n)\n(dev 4\n)\n)\n(dev 5\n)\n(mark 7\n(all 1)\n(own 5)\n(own 2)\n)\n)\n",
     )?;
+    Ok(())
+}
+
+// 29: redundant postings; then texts that are taken.
+fn redundant(rt: &HostRuntime) -> io::Result<()> {
     outcome(
         rt,
         "all 2 and own 3",
@@ -311,7 +316,8 @@ fn main(rt: HostRuntime) -> io::Result<()> {
     deep(rt)?;
     ends(rt)?;
     no_places(rt)?;
-    orders(rt)?;
+    falls(rt)?;
+    redundant(rt)?;
     rooms(rt)?;
     Ok(())
 }

@@ -1,4 +1,4 @@
--- How long a text is, and the loops that add it up.
+-- How long a text is, and a loop that adds it up.
 use Prim.Native.Nat.{ℕ, zero, suc, ◌+◌, ◌-◌, ◌*◌, ◌≤◌}
 use mathlib.Core.Path.{◌≡◌, refl, sym, ap, ◌∙◌}
 use mathlib.Core.Bool.{Bool, true, false, cond}
@@ -135,9 +135,9 @@ module _ (P : Plant) (I : Index) (h : tables_refusal P I ≡ 0) where
       ∙ parts_length (bytes_of (plain plant_line ∷ [])) (bytes_of (stretch P.last P.level 0 (size P))) (bytes_of (terms_forms I (count I))) (bytes_of (plain close_line ∷ []))
       ∙ omega (arith, rw x at a, rw (y, z) at b)
 
--- ---- the loops
+-- ---- a loop that adds up lengths
 
--- the first i entries have been added up, each with a number of 32 bits
+-- the first i entries have been added up, each with a number of ten digits at most
 pub record Summed (extra : ℕ) (key : ℕ → ℕ) (l : List ℕ) (n i : ℕ) : Type 0 where
   pub within : i ≤ length l
   pub known : n ≡ lines_length extra key (take i l)

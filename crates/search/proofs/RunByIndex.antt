@@ -43,10 +43,10 @@ abbrev pub onward : Round → ℕ
 onward (Accepts to) = to + 1
 onward (Again next) = next
 
--- where all cursors accept p, they do at each position up to the round's last, which is below the end
+-- where a round accepts p, all cursors accept each position up to its last, which is below the end; of another nothing is asked
 abbrev pub Stays : List ℕ → ℕ → List Cursor → ℕ → Round → Type 0
 Stays last end cs p (Accepts to) = (p ≤ to) × (to < end) × ((q : ℕ) → p ≤ q → q ≤ to → Accept last end q cs)
-Stays last end cs p (Again next) = p < next
+Stays last end cs p (Again next) = Unit {0}
 
 -- a round of the code at position p, in a run up to any end, is the definition's
 pub record Turned (last root : List ℕ) (ls : List (List ℕ)) (k end p budget : ℕ) (at at' : List ℕ) (c c' : Counts) (r : Round) : Type 0 where
@@ -98,7 +98,7 @@ module _ {last root : List ℕ} {ls : List (List ℕ)} {k p budget : ℕ} {at at
 
   turn_again : {next : ℕ} → Turns last root ls k p budget at at' c c' (Some (Again next)) → (j : ℕ)
       → goes last root ok ls k budget at c (suc j) p ≡ made c c' (goes last root ok ls k budget at' c' j next)
-  turn_again t j = again_goes ok (omega arith) (record { more = t.more; same = t.same; stays = t.goes.0 }) j
+  turn_again t j = again_goes ok (omega arith) (record { more = t.more; same = t.same; stays = tt }) j
 
   turn_lists : {to : ℕ} → Turns last root ls k p budget at at' c c' (Some (Accepts to)) → (j : ℕ)
       → goes last root ok ls k budget at c (to + 1 - p + j) p ≡ made c c' (led (matching ok (to + 1 - p) p) (goes last root ok ls k budget at' c' j (to + 1)))

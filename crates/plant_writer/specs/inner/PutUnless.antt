@@ -1,4 +1,4 @@
--- Bytes that are written from the start of a buffer unless a row refuses them. The contracts of private functions alone cite this.
+-- Bytes that are written from the start of a buffer unless a row refuses them. Lemmas alone cite this (`put_refused`, `put_taken`).
 use Rattle.std.specs.Prelude.{ℕ, ◌≡◌, List}
 use Rattle.writing.specs.inner.Puts.{Puts}
 
