@@ -1,4 +1,4 @@
--- Numbers of a table's entries. The contracts of private functions alone cite this.
+-- Numbers of a table's entries. The contracts of private functions, of `Branches::end_of` and of `index::reach_of` alone cite this.
 use Rattle.std.specs.Prelude.{ℕ, ◌≤◌, List, length}
 
 -- d is the number of an entry
